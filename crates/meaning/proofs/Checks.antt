@@ -1,0 +1,95 @@
+-- What it is to pass the checks, in facts about numbers: there and back. Assumes nothing.
+use mathlib.Core.Path.{_≡_, refl, _∙_}
+use mathlib.Core.Bool.{Bool, true, false}
+use mathlib.Core.List.{List}
+use Prim.Native.Nat.{ℕ, suc, _+_, _≤_, _<_}
+use native.Mathlib.Omega.{arith}
+use borrow.Author.Tests.{ltb-false, lt-ltb, le-ltb, eq-eqb, ne-eqb, eqb-true, not-false}
+use lib.Dec.{ltb}
+use lib.ListN.{length}
+use Rattle.meaning.specs.declared.Refusal.{Refusal}
+use Rattle.meaning.specs.declared.Refusal.the-variants.{OtherMajor, TooLong, EndsEarly, OtherVersion}
+use Rattle.meaning.specs.declared.Checked.{Checked}
+use Rattle.meaning.specs.declared.Checked.the-variants.{Fine, Fault}
+use Rattle.meaning.specs.Sizes.{longestChunk, headerBytes, ensembleBytes}
+use Rattle.meaning.specs.Reading.{check, checks, ensemblesChecks, majorIn, hIn, eIn, sIn, countIn, versionIn, servicesRoom, payload, inside, past}
+
+fault≢fine : {f : Refusal} → Fault f ≡ Fine → ⊥
+fault≢fine p = let z : _≡_ {A = ℕ} 0 1 = cc in omega arith
+
+check-passed : (b : Bool) (f : Refusal) (r : Checked) → check b f r ≡ Fine → (b ≡ false) × (r ≡ Fine)
+check-passed true f r p = absurd (fault≢fine p)
+check-passed false f r p = (refl, p)
+
+-- the facts that an ensemble at the start of ys passes by
+pub record EnsemblePasses (e s : ℕ) (ys : List ℕ) : Type 0 where
+  pub fields : ensembleBytes + e ≤ length ys
+  pub version : versionIn ys ≡ 0
+  pub services : servicesRoom e s ys ≤ length (inside e ys)
+
+pub ensemble-passes : (e s n : ℕ) (ys : List ℕ) → ensemblesChecks e s (suc n) ys ≡ Fine → EnsemblePasses e s ys × (ensemblesChecks e s n (past e s ys) ≡ Fine)
+unfolding ensemblesChecks
+ensemble-passes e s n ys p =
+    let a = check-passed _ EndsEarly _ p in
+    let b = check-passed _ OtherVersion _ (a .1) in
+    let d = check-passed _ EndsEarly _ (b .1) in
+    (record {
+       fields = ltb-false _ _ (a .0);
+       version = eqb-true _ _ (not-false _ (b .0));
+       services = ltb-false _ _ (d .0)
+     },
+     d .1)
+
+pub ensemble-fine : (e s n : ℕ) (ys : List ℕ) → EnsemblePasses e s ys → ensemblesChecks e s n (past e s ys) ≡ Fine → ensemblesChecks e s (suc n) ys ≡ Fine
+unfolding ensemblesChecks
+ensemble-fine e s n ys h p = simp (le-ltb _ _ (h .fields), eq-eqb _ _ (h .version), le-ltb _ _ (h .services)) p
+
+-- the facts that a chunk passes by, before its ensembles
+pub record HeaderPasses (xs : List ℕ) : Type 0 where
+  pub longest : length xs ≤ longestChunk
+  pub major : majorIn xs ≡ 0
+  pub fields : headerBytes + hIn xs ≤ length xs
+
+pub header-passes : (xs : List ℕ) → checks xs ≡ Fine → HeaderPasses xs × (ensemblesChecks (eIn xs) (sIn xs) (countIn xs) (payload xs) ≡ Fine)
+unfolding checks
+header-passes xs p =
+    let a = check-passed _ TooLong _ p in
+    let b = check-passed (ltb (length xs) 2) EndsEarly _ (a .1) in
+    let d = check-passed _ OtherMajor _ (b .1) in
+    let g = check-passed _ EndsEarly _ (d .1) in
+    (record {
+       longest = ltb-false _ _ (a .0);
+       major = eqb-true _ _ (not-false _ (d .0));
+       fields = ltb-false _ _ (g .0)
+     },
+     g .1)
+
+-- ---- when a header is refused, and with what
+
+module _ (xs : List ℕ) where
+  pub checks-long : longestChunk < length xs → checks xs ≡ Fault TooLong
+  unfolding checks
+  checks-long h = simp (lt-ltb _ _ h)
+
+  pub checks-bare : length xs < 2 → checks xs ≡ Fault EndsEarly
+  unfolding checks
+  checks-bare h =
+      let small : length xs ≤ longestChunk = omega arith in
+      simp (le-ltb _ _ small, lt-ltb _ _ h)
+
+  pub checks-major : length xs ≤ longestChunk → 2 ≤ length xs → (majorIn xs ≡ 0 → ⊥) → checks xs ≡ Fault OtherMajor
+  unfolding checks
+  checks-major l t m = simp (le-ltb _ _ l, le-ltb _ _ t, ne-eqb _ _ m)
+
+  pub checks-cut : length xs ≤ longestChunk → 2 ≤ length xs → majorIn xs ≡ 0 → length xs < headerBytes + hIn xs → checks xs ≡ Fault EndsEarly
+  unfolding checks
+  checks-cut l t m h = simp (le-ltb _ _ l, le-ltb _ _ t, eq-eqb _ _ m, lt-ltb _ _ h)
+
+  pub checks-header : HeaderPasses xs → checks xs ≡ ensemblesChecks (eIn xs) (sIn xs) (countIn xs) (payload xs)
+  unfolding checks
+  checks-header h =
+      let two : 2 ≤ length xs = omega (arith, h .fields) in
+      simp (le-ltb _ _ (h .longest), le-ltb _ _ two, eq-eqb _ _ (h .major), le-ltb _ _ (h .fields))
+
+  pub header-fine : HeaderPasses xs → ensemblesChecks (eIn xs) (sIn xs) (countIn xs) (payload xs) ≡ Fine → checks xs ≡ Fine
+  header-fine h p = checks-header h ∙ p

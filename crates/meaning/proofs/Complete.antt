@@ -1,0 +1,222 @@
+-- Every chunk of the layout is accepted, with exactly its list. Assumes nothing.
+use mathlib.Core.Path.{_≡_, refl, sym, ap, ap₂, _∙_, subst}
+use mathlib.Core.List.{List, [], _∷_, _++_, map, flatMap, append-assoc}
+use Prim.Native.Nat.{ℕ, zero, suc, _+_, _*_, _/_, _%_, _≤_, _<_}
+use native.Mathlib.Omega.{arith}
+use lib.ListN.{length, getD, drop, length-append}
+use lib.Seq.{drop-at, getD-at}
+use Rattle.octets.specs.Bits.{Field, field, InWidth, Held, run}
+use Rattle.octets.specs.Each.{Each}
+use Rattle.octets.specs.Word.{wordBytes}
+use Rattle.octets.proofs.Laws.{each-left, each-right, word-high-low}
+use Rattle.meaning.specs.declared.Kind.{Kind}
+use Rattle.meaning.specs.declared.Checked.the-variants.{Fine}
+use Rattle.meaning.specs.Sizes.{headerBytes, ensembleBytes, serviceBytes}
+use Rattle.meaning.specs.Lists.{FicList, kindOf}
+use Rattle.meaning.specs.Layout.{ServiceRow, serviceFields, EnsembleRow, ensembleFields, Chunk, chunkFields, wire, Sent, serviceOf, ensembleOf, listOf, Carries}
+use Rattle.meaning.specs.Reading.{serviceAt, servicesAt, ensembleAt, ensemblesAt, servicesIn, servicesRoom, inside, past, ensemblesChecks, checks, majorIn, minorIn, hIn, eIn, sIn, kindIn, streamIn, countIn, payload, listIn, Accepts}
+use Rattle.meaning.proofs.Checks.{EnsemblePasses, ensemble-fine, HeaderPasses, header-fine}
+use Rattle.meaning.proofs.Rows.{serviceRow, serviceThird, ensembleRow, ensembleSecond, ensembleThird, chunkFirst, chunkSecond, chunkRow, wire-row}
+
+-- ---- services
+
+abbrev Extended : ℕ → ServiceRow → Type 0
+Extended s v = length (v .extension) ≡ s
+
+service-read : (v : ServiceRow) (rest : List ℕ) → Held (serviceFields v) → serviceAt (serviceRow v ++ rest) ≡ serviceOf v
+unfolding serviceRow serviceFields
+service-read v rest h =
+    let m : serviceThird v / 8 % 4 ≡ v .multi = omega arith in
+    let t : serviceThird v / 2 % 4 ≡ v .status = omega arith in
+    let p : serviceThird v % 2 ≡ v .sp = omega arith in
+    λ i. record { id = word-high-low (v .id) i; multi = m i; status = t i; sp = p i }
+
+service-length : (s : ℕ) (v : ServiceRow) → Extended s v → length (serviceRow v) ≡ serviceBytes + s
+unfolding serviceRow
+service-length s v x = omega arith
+
+services-length : (s : ℕ) (vs : List ServiceRow) → Each (Extended s) vs → length (flatMap serviceRow vs) ≡ length vs * (serviceBytes + s)
+unfolding flatMap
+services-length s [] h = omega arith
+services-length s (v ∷ vs) h =
+    omega (arith, length-append (serviceRow v) (flatMap serviceRow vs), service-length s v (h .0), services-length s vs (h .1))
+
+services-read : (s : ℕ) (vs : List ServiceRow) (rest : List ℕ) → Held (flatMap serviceFields vs) → Each (Extended s) vs → servicesAt s (length vs) (flatMap serviceRow vs ++ rest) ≡ map serviceOf vs
+unfolding flatMap servicesAt
+services-read s [] rest h x = refl
+services-read s (v ∷ vs) rest h x =
+    let more : List ℕ = flatMap serviceRow vs ++ rest in
+    ap (λ (t : List ℕ). serviceAt t ∷ servicesAt s (length vs) (drop (serviceBytes + s) t)) (append-assoc (serviceRow v) (flatMap serviceRow vs) rest)
+    ∙ ap₂ _∷_ (service-read v more (each-left InWidth (serviceFields v) (flatMap serviceFields vs) h))
+        (ap (servicesAt s (length vs)) (drop-at (serviceRow v) more (serviceBytes + s) (service-length s v (x .0)))
+        ∙ services-read s vs rest (each-right InWidth (serviceFields v) (flatMap serviceFields vs) h) (x .1))
+
+-- ---- ensembles
+
+abbrev Widened : ℕ → ℕ → EnsembleRow → Type 0
+Widened e s x = (length (x .extension) ≡ e) × Each (Extended s) (x .services)
+
+-- an ensemble's row at the start of what is left, the extension lengths being e and s
+module _ (e s : ℕ) (x : EnsembleRow) (w : Widened e s x) (rest : List ℕ) where
+  front : List ℕ
+  front = x .id ∷ ensembleSecond x ∷ ensembleThird x ∷ x .extension
+
+  row : List ℕ
+  row = flatMap serviceRow (x .services)
+
+  -- the row, split at the number of its services
+  row-split : ensembleRow x ++ rest ≡ front ++ (length (x .services) ∷ (row ++ rest))
+  unfolding ensembleRow front row
+  row-split = append-assoc front (length (x .services) ∷ row) rest
+
+  services-counted : servicesIn e (ensembleRow x ++ rest) ≡ length (x .services)
+  unfolding front
+  services-counted =
+      ap (servicesIn e) row-split ∙ getD-at front (length (x .services)) (row ++ rest) 0 (3 + e) (omega (arith, w .0))
+
+  inside-row : inside e (ensembleRow x ++ rest) ≡ row ++ rest
+  unfolding front
+  inside-row =
+      ap (inside e) (row-split ∙ sym (append-assoc front (length (x .services) ∷ []) (row ++ rest)))
+      ∙ drop-at (front ++ (length (x .services) ∷ [])) (row ++ rest) (ensembleBytes + e)
+          (omega (arith, w .0, length-append (x .extension) (length (x .services) ∷ [])))
+
+  room-row : servicesRoom e s (ensembleRow x ++ rest) ≡ length row
+  unfolding row
+  room-row = ap (λ (n : ℕ). n * (serviceBytes + s)) services-counted ∙ sym (services-length s (x .services) (w .1))
+
+  past-row : past e s (ensembleRow x ++ rest) ≡ rest
+  past-row = ap₂ drop room-row inside-row ∙ drop-at row rest (length row) refl
+
+  ensemble-passes-row : Held (ensembleFields x) → x .version ≡ 0 → EnsemblePasses e s (ensembleRow x ++ rest)
+  unfolding ensembleFields ensembleRow front
+  ensemble-passes-row h v =
+      record {
+        fields = omega (arith, w .0, ap length row-split, length-append (x .extension) (length (x .services) ∷ (row ++ rest)));
+        version = omega arith;
+        services = omega (arith, room-row, ap length inside-row, length-append row rest)
+      }
+
+  ensemble-read : Held (ensembleFields x) → ensembleAt e s (ensembleRow x ++ rest) ≡ ensembleOf x
+  unfolding ensembleFields ensembleRow row
+  ensemble-read h =
+      let ys : List ℕ = ensembleRow x ++ rest in
+      let held : Held (field 8 (length (x .services)) ∷ flatMap serviceFields (x .services)) =
+          each-right InWidth (run (x .extension)) (field 8 (length (x .services)) ∷ flatMap serviceFields (x .services)) (h .1 .1 .1 .1 .1 .1 .1) in
+      let slt : ensembleThird x / 128 ≡ x .slt = omega arith in
+      let gat : ensembleThird x / 64 % 2 ≡ x .gat = omega arith in
+      let eat : ensembleThird x / 32 % 2 ≡ x .eat = omega arith in
+      let channel : ensembleThird x % 32 ≡ x .channel = omega arith in
+      let services : servicesAt s (servicesIn e ys) (inside e ys) ≡ map serviceOf (x .services) =
+          ap₂ (servicesAt s) services-counted inside-row ∙ services-read s (x .services) rest (held .1) (w .1) in
+      λ i. record { id = x .id; slt = slt i; gat = gat i; eat = eat i; channel = channel i; services = services i }
+
+-- the ensembles' rows, one after the other
+module _ (e s : ℕ) where
+  ensembles-read : (xs : List EnsembleRow) (rest : List ℕ) → Held (flatMap ensembleFields xs) → Each (Widened e s) xs → ensemblesAt e s (length xs) (flatMap ensembleRow xs ++ rest) ≡ map ensembleOf xs
+  unfolding flatMap ensemblesAt
+  ensembles-read [] rest h w = refl
+  ensembles-read (x ∷ xs) rest h w =
+      let more : List ℕ = flatMap ensembleRow xs ++ rest in
+      ap (ensemblesAt e s (suc (length xs))) (append-assoc (ensembleRow x) (flatMap ensembleRow xs) rest)
+      ∙ ap₂ _∷_ (ensemble-read e s x (w .0) more (each-left InWidth (ensembleFields x) (flatMap ensembleFields xs) h))
+          (ap (ensemblesAt e s (length xs)) (past-row e s x (w .0) more)
+          ∙ ensembles-read xs rest (each-right InWidth (ensembleFields x) (flatMap ensembleFields xs) h) (w .1))
+
+  ensembles-fine : (xs : List EnsembleRow) (rest : List ℕ) → Held (flatMap ensembleFields xs) → Each (Widened e s) xs → Each (λ x. x .version ≡ 0) xs → ensemblesChecks e s (length xs) (flatMap ensembleRow xs ++ rest) ≡ Fine
+  unfolding flatMap
+  ensembles-fine [] rest h w v = unfold ensemblesChecks in refl
+  ensembles-fine (x ∷ xs) rest h w v =
+      let more : List ℕ = flatMap ensembleRow xs ++ rest in
+      ap (ensemblesChecks e s (suc (length xs))) (append-assoc (ensembleRow x) (flatMap ensembleRow xs) rest)
+      ∙ ensemble-fine e s (length xs) (ensembleRow x ++ more)
+          (ensemble-passes-row e s x (w .0) more (each-left InWidth (ensembleFields x) (flatMap ensembleFields xs) h) (v .0))
+          (ap (ensemblesChecks e s (length xs)) (past-row e s x (w .0) more)
+          ∙ ensembles-fine xs rest (each-right InWidth (ensembleFields x) (flatMap ensembleFields xs) h) (w .1) (v .1))
+
+-- ---- chunks
+
+-- the row of a chunk that the layout allows
+module _ (c : Chunk) (t : Sent c) where
+  abbrev xs : List ℕ
+  xs = chunkRow c
+
+  before : List ℕ
+  before = chunkFirst c ∷ chunkSecond c ∷ wordBytes (c .stream) ++ c .extension
+
+  rest : List ℕ
+  rest = flatMap ensembleRow (c .ensembles) ++ c .stuffing
+
+  h-read : hIn xs ≡ c .h
+  unfolding chunkRow chunkFields
+  h-read = let held = t .held in omega arith
+
+  e-read : eIn xs ≡ c .e
+  unfolding chunkRow chunkFields
+  e-read = let held = t .held in omega arith
+
+  s-read : sIn xs ≡ c .s
+  unfolding chunkRow chunkFields
+  s-read = let held = t .held in omega arith
+
+  count-read : countIn xs ≡ length (c .ensembles)
+  unfolding chunkRow before rest
+  count-read =
+      ap (λ (k : ℕ). getD xs (4 + k) 0) h-read
+      ∙ getD-at before (length (c .ensembles)) rest 0 (4 + c .h) (omega (arith, t .header))
+
+  payload-read : payload xs ≡ rest
+  unfolding chunkRow before rest
+  payload-read =
+      ap (λ (k : ℕ). drop (headerBytes + k) xs) h-read
+      ∙ ap (drop (headerBytes + c .h)) (sym (append-assoc before (length (c .ensembles) ∷ []) rest))
+      ∙ drop-at (before ++ (length (c .ensembles) ∷ [])) rest (headerBytes + c .h)
+          (omega (arith, t .header, length-append (c .extension) (length (c .ensembles) ∷ [])))
+
+  ensembles-held : Held (flatMap ensembleFields (c .ensembles))
+  unfolding chunkFields
+  ensembles-held =
+      let loop = flatMap ensembleFields (c .ensembles) in
+      let after : List Field = field 8 (length (c .ensembles)) ∷ loop ++ run (c .stuffing) in
+      let held : Held after = each-right InWidth (run (c .extension)) after (t .held .1 .1 .1 .1 .1 .1 .1 .1) in
+      each-left InWidth loop (run (c .stuffing)) (held .1)
+
+  list-read : listIn xs ≡ listOf c
+  unfolding listIn chunkRow rest
+  list-read =
+      let ensembles : ensemblesAt (eIn xs) (sIn xs) (countIn xs) (payload xs) ≡ map ensembleOf (c .ensembles) =
+          (λ i. ensemblesAt (e-read i) (s-read i) (count-read i) (payload-read i))
+          ∙ ensembles-read (c .e) (c .s) (c .ensembles) (c .stuffing) ensembles-held (t .loops) in
+      λ i. record { stream = word-high-low (c .stream) i; ensembles = ensembles i }
+
+  chunk-passes : c .major ≡ 0 → HeaderPasses xs
+  unfolding chunkRow chunkFields
+  chunk-passes m =
+      let held = t .held in
+      record {
+        longest = omega (arith, t .room, ap length (wire-row c (t .held)));
+        major = omega arith;
+        fields = omega (arith, h-read, t .header, length-append (c .extension) (length (c .ensembles) ∷ (flatMap ensembleRow (c .ensembles) ++ c .stuffing)))
+      }
+
+  chunk-fine : c .major ≡ 0 → Each (λ x. x .version ≡ 0) (c .ensembles) → checks xs ≡ Fine
+  unfolding rest
+  chunk-fine m v =
+      header-fine xs (chunk-passes m)
+      ((λ i. ensemblesChecks (e-read i) (s-read i) (count-read i) (payload-read i))
+      ∙ ensembles-fine (c .e) (c .s) (c .ensembles) (c .stuffing) ensembles-held (t .loops) v)
+
+  chunk-accepts : c .major ≡ 0 → Each (λ x. x .version ≡ 0) (c .ensembles) → Accepts xs (kindOf (c .current)) (c .minor) (listOf c)
+  unfolding chunkRow chunkFields
+  chunk-accepts m v =
+      let held = t .held in
+      let current : getD xs 1 0 % 2 ≡ c .current = omega arith in
+      record { passes = chunk-fine m v; kind = ap kindOf current; minor = omega arith; list = list-read }
+
+-- what the layout carries, the reader accepts
+pub carried-accepted : {xs : List ℕ} {k : Kind} {m : ℕ} {l : FicList} → Carries xs k m l → Accepts xs k m l
+carried-accepted {xs} {k} {m} {l} h =
+    let c = h .chunk in
+    let a = chunk-accepts c (h .sent) (h .major) (h .versions) in
+    subst (λ (t : List ℕ). Accepts t k m l) (sym (wire-row c (h .sent .held)) ∙ h .bytes)
+    (record { passes = a .passes; kind = a .kind ∙ h .kind; minor = a .minor ∙ h .minor; list = a .list ∙ h .list })

@@ -1,0 +1,97 @@
+-- How long a listing is: from the counts, and at the most 1,292 bytes for a chunk that is accepted. Assumes nothing.
+use mathlib.Core.Path.{_≡_, refl, sym, ap, ap₂, _∙_}
+use mathlib.Core.Logic.{⊎-elim}
+use mathlib.Core.List.{List, [], _∷_, _++_, flatMap}
+use Prim.Native.Nat.{ℕ, zero, suc, _+_, _*_, _≤_}
+use native.Mathlib.Nat.{mul-le-mul-left, eq-zero-or-pos, le-add-right}
+use native.Mathlib.Omega.{arith}
+use lib.ListN.{length, length-append, length-drop}
+use Rattle.meaning.specs.declared.Checked.the-variants.{Fine}
+use Rattle.meaning.specs.Sizes.{headerBytes, ensembleBytes, serviceBytes, tsBytes, enBytes, svBytes, longestChunk, longestListing}
+use Rattle.meaning.specs.Lists.{Service, Ensemble, FicList, servicesOf}
+use Rattle.meaning.specs.Listing.{svRecord, ensembleListing, listing}
+use Rattle.meaning.specs.Reading.{servicesAt, ensemblesAt, ensemblesChecks, checks, servicesIn, servicesRoom, inside, past, eIn, sIn, hIn, countIn, payload, listIn}
+use Rattle.meaning.proofs.Checks.{ensemble-passes, header-passes}
+
+-- ---- from the counts
+
+pub length-records : (vs : List Service) → length (flatMap svRecord vs) ≡ svBytes * length vs
+unfolding flatMap
+length-records [] = refl
+length-records (v ∷ vs) = omega (arith, length-append (svRecord v) (flatMap svRecord vs), length-records vs)
+
+length-ensembles : (es : List Ensemble) → length (flatMap ensembleListing es) ≡ enBytes * length es + svBytes * length (flatMap (λ e. e .services) es)
+unfolding flatMap ensembleListing
+length-ensembles [] = refl
+length-ensembles (e ∷ es) =
+    omega
+    (arith,
+     length-append (ensembleListing e) (flatMap ensembleListing es),
+     length-append (e .services) (flatMap (λ x. x .services) es),
+     length-records (e .services),
+     length-ensembles es)
+
+pub length-listing : (l : FicList) → length (listing l) ≡ tsBytes + enBytes * length (l .ensembles) + svBytes * length (servicesOf l)
+unfolding listing servicesOf
+length-listing l = omega (arith, length-ensembles (l .ensembles))
+
+-- ---- at the most
+
+pub length-servicesAt : (s n : ℕ) (zs : List ℕ) → length (servicesAt s n zs) ≡ n
+unfolding servicesAt
+length-servicesAt s zero zs = refl
+length-servicesAt s (suc n) zs = ap suc (length-servicesAt s n _)
+
+length-ensemblesAt : (e s n : ℕ) (ys : List ℕ) → length (ensemblesAt e s n ys) ≡ n
+unfolding ensemblesAt
+length-ensemblesAt e s zero ys = refl
+length-ensemblesAt e s (suc n) ys = ap suc (length-ensemblesAt e s n _)
+
+-- each ensemble and each service has taken its bytes of the chunk
+ensembles-room : (e s n : ℕ) (ys : List ℕ) → ensemblesChecks e s n ys ≡ Fine → ensembleBytes * n + serviceBytes * length (flatMap (λ x. x .services) (ensemblesAt e s n ys)) ≤ length ys
+unfolding flatMap ensemblesAt
+ensembles-room e s zero ys p = omega arith
+ensembles-room e s (suc n) ys p =
+    let h = ensemble-passes e s n ys p in
+    let own : List Service = servicesAt s (servicesIn e ys) (inside e ys) in
+    let more : List Service = flatMap (λ x. x .services) (ensemblesAt e s n (past e s ys)) in
+    omega
+    (arith,
+     h .0 .fields,
+     h .0 .services,
+     ensembles-room e s n (past e s ys) (h .1),
+     length-append own more,
+     length-servicesAt s (servicesIn e ys) (inside e ys),
+     length-drop (ensembleBytes + e) ys,
+     length-drop (servicesRoom e s ys) (inside e ys),
+     mul-le-mul-left (servicesIn e ys) (le-add-right serviceBytes s))
+
+-- what the chunk has room for, the longest listing has room for; a service needs an ensemble
+counts-fit : (E S : ℕ) → headerBytes + ensembleBytes * E + serviceBytes * S ≤ longestChunk → (E ≡ 0 → S ≡ 0) → tsBytes + enBytes * E + svBytes * S ≤ longestListing
+counts-fit E S h k =
+    ⊎-elim
+    (λ none. let no-service = k none in omega arith)
+    (λ some. let both : E + S ≤ 184 = omega arith in omega arith)
+    (eq-zero-or-pos E)
+
+pub listing-fits : (xs : List ℕ) → checks xs ≡ Fine → length (listing (listIn xs)) ≤ longestListing
+unfolding listIn servicesOf
+listing-fits xs p =
+    let h = header-passes xs p in
+    let es : List Ensemble = ensemblesAt (eIn xs) (sIn xs) (countIn xs) (payload xs) in
+    let S : ℕ = length (flatMap (λ x. x .services) es) in
+    let none : countIn xs ≡ 0 → S ≡ 0 =
+        λ z. ap (λ (n : ℕ). length (flatMap (λ x. x .services) (ensemblesAt (eIn xs) (sIn xs) n (payload xs)))) z
+        ∙ unfold ensemblesAt flatMap in refl in
+    omega
+    (arith,
+     length-listing (listIn xs),
+     length-ensemblesAt (eIn xs) (sIn xs) (countIn xs) (payload xs),
+     counts-fit (countIn xs) S
+     (omega
+     (arith,
+      h .0 .fields,
+      h .0 .longest,
+      ensembles-room (eIn xs) (sIn xs) (countIn xs) (payload xs) (h .1),
+      length-drop (headerBytes + hIn xs) xs))
+     none)

@@ -1,0 +1,5 @@
+pub mod Checks
+pub mod Rows
+pub mod Complete
+pub mod Sound
+pub mod Lengths

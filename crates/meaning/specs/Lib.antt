@@ -1,0 +1,6 @@
+pub mod Sizes
+pub mod Numbers
+pub mod Lists
+pub mod Layout
+pub mod Listing
+pub mod Reading

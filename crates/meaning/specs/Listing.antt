@@ -1,0 +1,40 @@
+-- Document 01, "Listing": a list in the house form, a two-byte mark before each record.
+use Prim.Native.Nat.{ℕ, _+_, _*_}
+use mathlib.Core.List.{List, [], _∷_, _++_, flatMap}
+use lib.ListN.{length}
+use Rattle.octets.specs.Word.{wordBytes}
+use Rattle.meaning.specs.Lists.{Service, Ensemble, FicList}
+
+-- the marks: TS, EN, SV
+abbrev pub markTS : List ℕ
+markTS = 0x54 ∷ 0x53 ∷ []
+
+abbrev pub markEN : List ℕ
+markEN = 0x45 ∷ 0x4E ∷ []
+
+abbrev pub markSV : List ℕ
+markSV = 0x53 ∷ 0x56 ∷ []
+
+-- TS, transport_stream_id, number of ensembles
+abbrev pub tsRecord : FicList → List ℕ
+tsRecord l = markTS ++ wordBytes (l .stream) ++ (length (l .ensembles) ∷ [])
+
+-- 4 SLT + 2 GAT + EAT
+abbrev pub flags : Ensemble → ℕ
+flags e = 4 * e .slt + 2 * e .gat + e .eat
+
+-- EN, id, flags, channel version, number of services
+abbrev pub enRecord : Ensemble → List ℕ
+enRecord e = markEN ++ (e .id ∷ flags e ∷ e .channel ∷ length (e .services) ∷ [])
+
+-- SV, id, multi, status, SP
+abbrev pub svRecord : Service → List ℕ
+svRecord v = markSV ++ wordBytes (v .id) ++ (v .multi ∷ v .status ∷ v .sp ∷ [])
+
+-- an ensemble, then its services
+unfoldable pub ensembleListing : Ensemble → List ℕ
+ensembleListing e = enRecord e ++ flatMap svRecord (e .services)
+
+-- the stream, then its ensembles
+unfoldable pub listing : FicList → List ℕ
+listing l = tsRecord l ++ flatMap ensembleListing (l .ensembles)

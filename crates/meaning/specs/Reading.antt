@@ -1,0 +1,150 @@
+-- Document 01's reader: the fields by their places in a chunk, the checks in order, the list that is read, and what the public call answers
+-- and leaves in the lent buffer.
+use Prim.Native.Nat.{ℕ, zero, suc, _+_, _*_, _/_, _%_}
+use mathlib.Core.Path.{_≡_}
+use mathlib.Core.Bool.{Bool, cond, not}
+use mathlib.Core.List.{List, [], _∷_, _++_}
+use lib.Dec.{ltb, eqb}
+use lib.ListN.{length, getD, drop}
+use Rattle.octets.specs.Word.{word}
+use Rattle.meaning.specs.declared.Kind.{Kind}
+use Rattle.meaning.specs.declared.Refusal.{Refusal}
+use Rattle.meaning.specs.declared.Refusal.the-variants.{ShortBuffer, OtherMajor, TooLong, EndsEarly, OtherVersion}
+use Rattle.meaning.specs.declared.Checked.{Checked}
+use Rattle.meaning.specs.declared.Checked.the-variants.{Fine, Fault}
+use Rattle.meaning.specs.declared.Read.{Read}
+use Rattle.meaning.specs.declared.Read.the-variants.{Listed, Refused}
+use Rattle.meaning.specs.Sizes.{longestChunk, headerBytes, ensembleBytes, serviceBytes, longestListing}
+use Rattle.meaning.specs.Lists.{Service, Ensemble, FicList, kindOf}
+use Rattle.meaning.specs.Listing.{listing}
+
+-- ---- the fields: of a chunk xs, of an ensemble at the start of ys, of a service at the start of zs
+
+abbrev pub majorIn : List ℕ → ℕ
+majorIn xs = getD xs 0 0 / 64
+
+abbrev pub minorIn : List ℕ → ℕ
+minorIn xs = getD xs 0 0 / 8 % 8
+
+abbrev pub hIn : List ℕ → ℕ
+hIn xs = getD xs 0 0 % 8
+
+abbrev pub eIn : List ℕ → ℕ
+eIn xs = getD xs 1 0 / 32
+
+abbrev pub sIn : List ℕ → ℕ
+sIn xs = getD xs 1 0 / 4 % 8
+
+abbrev pub kindIn : List ℕ → Kind
+kindIn xs = kindOf (getD xs 1 0 % 2)
+
+abbrev pub streamIn : List ℕ → ℕ
+streamIn xs = word (getD xs 2 0) (getD xs 3 0)
+
+-- num_ensembles, after the header's extension bytes
+abbrev pub countIn : List ℕ → ℕ
+countIn xs = getD xs (4 + hIn xs) 0
+
+abbrev pub versionIn : List ℕ → ℕ
+versionIn ys = getD ys 1 0 % 32
+
+-- num_MH_services, after the ensemble's e extension bytes
+abbrev pub servicesIn : ℕ → List ℕ → ℕ
+servicesIn e ys = getD ys (3 + e) 0
+
+-- the bytes of an ensemble's services, s extension bytes each
+abbrev pub servicesRoom : ℕ → ℕ → List ℕ → ℕ
+servicesRoom e s ys = servicesIn e ys * (serviceBytes + s)
+
+-- what follows the header, what follows the fields of an ensemble, and what follows its services
+abbrev pub payload : List ℕ → List ℕ
+payload xs = drop (headerBytes + hIn xs) xs
+
+abbrev pub inside : ℕ → List ℕ → List ℕ
+inside e ys = drop (ensembleBytes + e) ys
+
+abbrev pub past : ℕ → ℕ → List ℕ → List ℕ
+past e s ys = drop (servicesRoom e s ys) (inside e ys)
+
+-- ---- the checks
+
+-- the refusal where a rule is broken, else the checks that follow
+abbrev pub check : Bool → Refusal → Checked → Checked
+check broken f rest = cond broken (Fault f) rest
+
+-- n ensembles at the start of ys
+unfoldable pub ensemblesChecks : ℕ → ℕ → ℕ → List ℕ → Checked
+ensemblesChecks e s zero ys = Fine
+ensemblesChecks e s (suc n) ys =
+    check (ltb (length ys) (ensembleBytes + e)) EndsEarly
+    (check (not (eqb (versionIn ys) 0)) OtherVersion
+    (check (ltb (length (inside e ys)) (servicesRoom e s ys)) EndsEarly
+    (ensemblesChecks e s n (past e s ys))))
+
+unfoldable pub checks : List ℕ → Checked
+checks xs =
+    check (ltb longestChunk (length xs)) TooLong
+    (check (ltb (length xs) 2) EndsEarly
+    (check (not (eqb (majorIn xs) 0)) OtherMajor
+    (check (ltb (length xs) (headerBytes + hIn xs)) EndsEarly
+    (ensemblesChecks (eIn xs) (sIn xs) (countIn xs) (payload xs)))))
+
+-- ---- the list
+
+abbrev pub serviceAt : List ℕ → Service
+serviceAt zs =
+    record { id = word (getD zs 0 0) (getD zs 1 0); multi = getD zs 2 0 / 8 % 4; status = getD zs 2 0 / 2 % 4; sp = getD zs 2 0 % 2 }
+
+-- n services at the start of zs
+unfoldable pub servicesAt : ℕ → ℕ → List ℕ → List Service
+servicesAt s zero zs = []
+servicesAt s (suc n) zs = serviceAt zs ∷ servicesAt s n (drop (serviceBytes + s) zs)
+
+abbrev pub ensembleAt : ℕ → ℕ → List ℕ → Ensemble
+ensembleAt e s ys =
+    record {
+      id = getD ys 0 0;
+      slt = getD ys 2 0 / 128;
+      gat = getD ys 2 0 / 64 % 2;
+      eat = getD ys 2 0 / 32 % 2;
+      channel = getD ys 2 0 % 32;
+      services = servicesAt s (servicesIn e ys) (inside e ys)
+    }
+
+-- n ensembles at the start of ys
+unfoldable pub ensemblesAt : ℕ → ℕ → ℕ → List ℕ → List Ensemble
+ensemblesAt e s zero ys = []
+ensemblesAt e s (suc n) ys = ensembleAt e s ys ∷ ensemblesAt e s n (past e s ys)
+
+unfoldable pub listIn : List ℕ → FicList
+listIn xs =
+    record { stream = streamIn xs; ensembles = ensemblesAt (eIn xs) (sIn xs) (countIn xs) (payload xs) }
+
+-- the chunk xs passes the checks, and is read as the list l for the frame k in the minor edition m
+pub record Accepts (xs : List ℕ) (k : Kind) (m : ℕ) (l : FicList) : Type 0 where
+  pub passes : checks xs ≡ Fine
+  pub kind : kindIn xs ≡ k
+  pub minor : minorIn xs ≡ m
+  pub list : listIn xs ≡ l
+
+-- ---- the public call, on a chunk xs and a lent buffer
+
+abbrev pub answerTo : Checked → List ℕ → Read
+answerTo Fine xs = Listed (kindIn xs) (minorIn xs) (length (listing (listIn xs)))
+answerTo (Fault f) xs = Refused f
+
+unfoldable pub readAnswer : List ℕ → List ℕ → Read
+readAnswer xs buffer = cond (ltb (length buffer) longestListing) (Refused ShortBuffer) (answerTo (checks xs) xs)
+
+-- the listing at the start, bytes past it as they were; a refusal leaves all as it was
+abbrev pub leftBy : Read → List ℕ → List ℕ → List ℕ
+leftBy (Listed k m n) xs buffer = listing (listIn xs) ++ drop n buffer
+leftBy (Refused f) xs buffer = buffer
+
+unfoldable pub readBuffer : List ℕ → List ℕ → List ℕ
+readBuffer xs buffer = leftBy (readAnswer xs buffer) xs buffer
+
+-- what the reader promises: of the chunk xs and the buffer before, its answer, and the buffer after
+pub record ReadSays (xs before : List ℕ) (answer : Read) (after : List ℕ) : Type 0 where
+  pub answers : answer ≡ readAnswer xs before
+  pub leaves : after ≡ readBuffer xs before

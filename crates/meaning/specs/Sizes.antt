@@ -1,0 +1,30 @@
+-- Every size of document 01 that the chunk and its listing have, by one name. The code has the same names.
+use Prim.Native.Nat.{ℕ}
+
+-- a chunk: 16 segments of 35 bytes at the most
+abbrev pub longestChunk : ℕ
+longestChunk = 560
+
+-- the bytes of a chunk's header, of an ensemble and of a service, extension bytes and what the loops hold aside
+abbrev pub headerBytes : ℕ
+headerBytes = 5
+
+abbrev pub ensembleBytes : ℕ
+ensembleBytes = 4
+
+abbrev pub serviceBytes : ℕ
+serviceBytes = 3
+
+-- the bytes of a listing's records
+abbrev pub tsBytes : ℕ
+tsBytes = 5
+
+abbrev pub enBytes : ℕ
+enBytes = 6
+
+abbrev pub svBytes : ℕ
+svBytes = 7
+
+-- the longest listing of a chunk
+abbrev pub longestListing : ℕ
+longestListing = 1292

@@ -1,0 +1,64 @@
+// The words that the whole project uses: the kinds, the refusals, the answers, and the sizes by name.
+
+ghost use mathlib.Core.Path.{_≡_};
+ghost use Rattle.meaning.specs.Lists.{kindOf};
+
+// The frame that a list is for: the one it comes in, or the one after it.
+pub enum Kind {
+    This,
+    Next,
+}
+
+// Why a call refuses, a variant for each number of document 01.
+pub enum Refusal {
+    ShortBuffer,
+    SegmentLength,
+    SegmentType,
+    ErrorBit,
+    OtherMajor,
+    NumberAboveLast,
+    Clash,
+    TooLong,
+    EndsEarly,
+    KindDiffers,
+    OtherVersion,
+    BadDesk,
+    BadListing,
+    TooMany,
+    BadLog,
+}
+
+// What the checks on a chunk find.
+pub enum Checked {
+    Fine,
+    Fault(Refusal),
+}
+
+// What the reader answers.
+pub enum Read {
+    Listed { kind: Kind, minor: u8, length: usize },
+    Refused(Refusal),
+}
+
+// The longest chunk, and the shortest header, ensemble and service of one: their bytes with no extension.
+pub const LONGEST_CHUNK: usize = 560;
+pub const HEADER: usize = 5;
+pub const ENSEMBLE: usize = 4;
+pub const SERVICE: usize = 3;
+
+// The longest listing of a chunk, and the listing's three records.
+pub const LONGEST_LISTING: usize = 1292;
+pub const TS_RECORD: usize = 5;
+pub const EN_RECORD: usize = 6;
+pub const SV_RECORD: usize = 7;
+
+// The kind that a current_next_indicator says.
+pub fn kind_of(current: u8) -> Kind
+    ensures { λ r. ⌜ r ≡ kindOf current ⌝ }
+{
+    if current == 1 {
+        Kind::This
+    } else {
+        Kind::Next
+    }
+}

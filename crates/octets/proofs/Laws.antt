@@ -1,0 +1,187 @@
+-- Laws of fields and bytes, each over the widths. Assumes nothing.
+use mathlib.Core.Path.{_≡_, refl, sym, ap, ap₂, _∙_}
+use mathlib.Core.List.{List, [], _∷_, _++_, flatMap, append-assoc, append-nil}
+use Prim.Native.Nat.{ℕ, zero, suc, _+_, _*_, _/_, _%_, _^_, _<_}
+use native.Mathlib.Nat.{mod-eq-of-lt, mod-one, zero-add, suc-add, add-comm}
+use native.Mathlib.Numerals.{one-add}
+use native.Mathlib.Omega.{arith}
+use lib.ListN.{length, getD, take, drop, length-append}
+use lib.Seq.{take-at, drop-at}
+use lib.Pow.{pow-add, mod-pow-add, shr-shr}
+use Rattle.octets.specs.Bits.{Field, field, bits, laid, number, octets, bytesOf, InWidth, Held, run, Bytes}
+use Rattle.octets.specs.Each.{Each}
+use Rattle.octets.specs.Word.{word, high, low, wordBytes}
+
+-- ---- every element of a joined list
+
+module _ {A : Type 0} (P : A → Type 0) where
+  pub each-append : (s t : List A) → Each P s → Each P t → Each P (s ++ t)
+  each-append [] t p q = q
+  each-append (x ∷ s) t p q = (p .0, each-append s t (p .1) q)
+
+  pub each-left : (s t : List A) → Each P (s ++ t) → Each P s
+  each-left [] t h = tt
+  each-left (x ∷ s) t h = (h .0, each-left s t (h .1))
+
+  pub each-right : (s t : List A) → Each P (s ++ t) → Each P t
+  each-right [] t h = h
+  each-right (x ∷ s) t h = each-right s t (h .1)
+
+-- ---- two-byte numbers
+
+pub high-word : (a b : ℕ) → b < 256 → high (word a b) ≡ a
+high-word a b h = omega arith
+
+pub low-word : (a b : ℕ) → b < 256 → low (word a b) ≡ b
+low-word a b h = omega arith
+
+pub word-high-low : (w : ℕ) → word (high w) (low w) ≡ w
+word-high-low w = omega arith
+
+-- ---- bits
+
+pub length-bits : (w v : ℕ) → length (bits w v) ≡ w
+unfolding bits
+length-bits zero v = refl
+length-bits (suc w) v = ap suc (length-bits w v)
+
+-- a string of w bits says the number back, less what w bits don't hold
+pub number-bits : (w v : ℕ) → number (bits w v) ≡ v % 2 ^ w
+unfolding bits number
+number-bits zero v = sym (mod-one v)
+number-bits (suc w) v =
+    ap₂ (λ (k m : ℕ). v / 2 ^ w % 2 * 2 ^ k + m) (length-bits w v) (number-bits w v)
+    ∙ sym (ap (λ (k : ℕ). v % 2 ^ k) (sym (one-add w)) ∙ mod-pow-add v 1 w)
+
+pub number-append : (s t : List ℕ) → number (s ++ t) ≡ number s * 2 ^ length t + number t
+unfolding number
+number-append [] t = omega arith
+number-append (b ∷ s) t =
+    ap₂ (λ (k m : ℕ). b * 2 ^ k + m) (length-append s t) (number-append s t)
+    ∙ rw (pow-add 2 (length s) (length t)) (omega arith)
+
+-- ---- fields
+
+-- how many bits some fields have
+abbrev pub width : List Field → ℕ
+width [] = 0
+width (field w v ∷ fs) = w + width fs
+
+-- the number that some fields make together
+abbrev pub packed : List Field → ℕ
+packed [] = 0
+packed (field w v ∷ fs) = v * 2 ^ width fs + packed fs
+
+pub length-laid : (fs : List Field) → length (laid fs) ≡ width fs
+unfolding laid
+length-laid [] = refl
+length-laid (field w v ∷ fs) = length-append (bits w v) (laid fs) ∙ ap₂ _+_ (length-bits w v) (length-laid fs)
+
+pub number-laid : (fs : List Field) → Held fs → number (laid fs) ≡ packed fs
+unfolding laid number
+number-laid [] h = refl
+number-laid (field w v ∷ fs) h =
+    number-append (bits w v) (laid fs)
+    ∙ ap₂ (λ (k m : ℕ). k * 2 ^ length (laid fs) + m) (number-bits w v ∙ mod-eq-of-lt (h .0)) (number-laid fs (h .1))
+    ∙ ap (λ (k : ℕ). v * 2 ^ k + packed fs) (length-laid fs)
+
+pub laid-append : (gs fs : List Field) → laid (gs ++ fs) ≡ laid gs ++ laid fs
+unfolding laid
+laid-append [] fs = refl
+laid-append (field w v ∷ gs) fs = ap (λ (t : List ℕ). bits w v ++ t) (laid-append gs fs) ∙ sym (append-assoc (bits w v) (laid gs) (laid fs))
+
+-- ---- lists of bytes
+
+pub bytes-take : (n : ℕ) (xs : List ℕ) → Bytes xs → Bytes (take n xs)
+bytes-take zero xs h = tt
+bytes-take (suc n) [] h = tt
+bytes-take (suc n) (x ∷ xs) h = (h .0, bytes-take n xs (h .1))
+
+pub bytes-drop : (n : ℕ) (xs : List ℕ) → Bytes xs → Bytes (drop n xs)
+bytes-drop zero xs h = h
+bytes-drop (suc n) [] h = tt
+bytes-drop (suc n) (x ∷ xs) h = bytes-drop n xs (h .1)
+
+pub getD-byte : (xs : List ℕ) (i : ℕ) → Bytes xs → getD xs i 0 < 256
+getD-byte [] i h = omega arith
+getD-byte (x ∷ xs) zero h = h .0
+getD-byte (x ∷ xs) (suc i) h = getD-byte xs i (h .1)
+
+-- a wide field's bits are those of its parts
+bits-split : (j k v : ℕ) → bits (j + k) v ≡ bits j (v / 2 ^ k) ++ bits k v
+unfolding bits
+bits-split zero k v = ap (λ (n : ℕ). bits n v) (zero-add k)
+bits-split (suc j) k v =
+    ap (λ (n : ℕ). bits n v) (suc-add j k)
+    ∙ ap₂ (λ (a : ℕ) (t : List ℕ). a % 2 ∷ t)
+        (ap (λ (n : ℕ). v / 2 ^ n) (add-comm j k) ∙ sym (shr-shr v k j))
+        (bits-split j k v)
+
+-- ---- bytes that fields make
+
+octets-cons : (s t : List ℕ) → length s ≡ 8 → octets (length (s ++ t) / 8) (s ++ t) ≡ number s ∷ octets (length t / 8) t
+unfolding octets
+octets-cons s t e =
+    let n : length (s ++ t) / 8 ≡ suc (length t / 8) = omega (arith, length-append s t) in
+    ap (λ (k : ℕ). octets k (s ++ t)) n
+    ∙ ap₂ (λ (a b : List ℕ). number a ∷ octets (length t / 8) b) (take-at s t 8 e) (drop-at s t 8 e)
+
+-- the fields gs, whatever comes after them, make the bytes xs
+pub record Makes (gs : List Field) (xs : List ℕ) : Type 0 where
+  pub made : Held gs → (fs : List Field) → bytesOf (gs ++ fs) ≡ xs ++ bytesOf fs
+
+pub bytes-made : {gs : List Field} {xs : List ℕ} → Makes gs xs → Held gs → bytesOf gs ≡ xs
+unfolding bytesOf laid octets
+bytes-made {gs} {xs} m h = ap bytesOf (sym (append-nil gs)) ∙ m .made h [] ∙ append-nil xs
+
+-- nothing makes nothing, and what some fields make comes before what the fields after them make
+pub makes-nil : Makes [] []
+makes-nil = record { made = λ h fs. refl }
+
+pub makes-append : {gs hs : List Field} {xs ys : List ℕ} → Makes gs xs → Makes hs ys → Makes (gs ++ hs) (xs ++ ys)
+makes-append {gs} {hs} {xs} {ys} m n =
+    record {
+      made = λ h fs.
+          ap bytesOf (append-assoc gs hs fs)
+          ∙ m .made (each-left InWidth gs hs h) (hs ++ fs)
+          ∙ ap (λ (t : List ℕ). xs ++ t) (n .made (each-right InWidth gs hs h) fs)
+          ∙ sym (append-assoc xs ys (bytesOf fs))
+    }
+
+-- fields that fill a byte
+pub makes-byte : (gs : List Field) → width gs ≡ 8 → Makes gs (packed gs ∷ [])
+unfolding bytesOf
+makes-byte gs e =
+    record {
+      made = λ h fs.
+          ap (λ (t : List ℕ). octets (length t / 8) t) (laid-append gs fs)
+          ∙ octets-cons (laid gs) (laid fs) (length-laid gs ∙ e)
+          ∙ ap (λ (k : ℕ). k ∷ bytesOf fs) (number-laid gs h)
+    }
+
+pub makes-octet : (x : ℕ) → Makes (field 8 x ∷ []) (x ∷ [])
+makes-octet x =
+    record { made = λ h fs. makes-byte (field 8 x ∷ []) refl .made h fs ∙ ap (λ (k : ℕ). k ∷ bytesOf fs) (omega arith) }
+
+-- a two-byte number
+pub makes-word : (v : ℕ) → Makes (field 16 v ∷ []) (wordBytes v)
+unfolding bytesOf laid
+makes-word v =
+    record {
+      made = λ h fs.
+          ap (λ (s : List ℕ). octets (length s / 8) s)
+              (ap (λ (s : List ℕ). s ++ laid fs) (bits-split 8 8 v) ∙ append-assoc (bits 8 (v / 256)) (bits 8 v) (laid fs))
+          ∙ octets-cons (bits 8 (v / 256)) (bits 8 v ++ laid fs) (length-bits 8 (v / 256))
+          ∙ ap₂ _∷_ (number-bits 8 (v / 256) ∙ omega (arith, h .0))
+              (octets-cons (bits 8 v) (laid fs) (length-bits 8 v) ∙ ap (λ (k : ℕ). k ∷ bytesOf fs) (number-bits 8 v))
+    }
+
+-- a run of bytes, and a run of rows
+pub makes-run : (xs : List ℕ) → Makes (run xs) xs
+makes-run [] = makes-nil
+makes-run (x ∷ xs) = makes-append (makes-octet x) (makes-run xs)
+
+pub makes-rows : {A : Type 0} (fields : A → List Field) (bytes : A → List ℕ) → ((a : A) → Makes (fields a) (bytes a)) → (rs : List A) → Makes (flatMap fields rs) (flatMap bytes rs)
+unfolding flatMap
+makes-rows fields bytes one [] = makes-nil
+makes-rows fields bytes one (a ∷ rs) = makes-append (one a) (makes-rows fields bytes one rs)

@@ -1,0 +1,28 @@
+-- A run of stores at to, to + 1, to + 2 and so on, as code writes it, is `sets` there. Assumes nothing.
+use mathlib.Core.Path.{_≡_, refl, sym, ap, _∙_}
+use mathlib.Core.List.{List, [], _∷_, _++_}
+use Prim.Native.Nat.{ℕ, suc, _+_}
+use native.Mathlib.Nat.{add-zero, add-suc, suc-add}
+use native.Mathlib.Numerals.{add-one}
+use lib.ListN.{length, set}
+use lib.Seq.{sets}
+
+-- the elements of vs stored at to + k, to + (k + 1), ..
+abbrev pub stores : List ℕ → ℕ → ℕ → List ℕ → List ℕ
+stores l to k [] = l
+stores l to k (v ∷ vs) = stores (set l (to + k) v) to (suc k) vs
+
+stores-sets : (vs l : List ℕ) (to k : ℕ) → stores l to k vs ≡ sets l (to + k) vs
+stores-sets [] l to k = refl
+stores-sets (v ∷ vs) l to k =
+    stores-sets vs (set l (to + k) v) to (suc k) ∙ ap (λ (n : ℕ). sets (set l (to + k) v) n vs) (add-suc to k)
+
+pub stored : (v : ℕ) (vs l : List ℕ) (to : ℕ) → stores (set l to v) to 1 vs ≡ sets l to (v ∷ vs)
+stored v vs l to = stores-sets vs (set l to v) to 1 ∙ ap (λ (n : ℕ). sets (set l to v) n vs) (add-one to)
+
+-- one run of stores after the other
+pub sets-append : (vs ws l : List ℕ) (i : ℕ) → sets l i (vs ++ ws) ≡ sets (sets l i vs) (i + length vs) ws
+sets-append [] ws l i = ap (λ (n : ℕ). sets l n ws) (sym (add-zero i))
+sets-append (v ∷ vs) ws l i =
+    sets-append vs ws (set l i v) (suc i)
+    ∙ ap (λ (n : ℕ). sets (sets l i (v ∷ vs)) n ws) (suc-add i (length vs) ∙ sym (add-suc i (length vs)))

@@ -1,0 +1,194 @@
+-- Laws of the definitions in the code's own terms: a chunk xs and a place in it, instead of what is left of the chunk. Assumes nothing.
+use mathlib.Core.Path.{_≡_, refl, sym, ap, ap₂, _∙_, subst}
+use mathlib.Core.List.{List, [], _∷_, _++_, flatMap}
+use Prim.Native.Nat.{ℕ, zero, suc, _+_, _-_, _*_, _/_, _%_, _≤_, _<_}
+use native.Mathlib.Nat.{mul-le-mul, add-zero, add-assoc, div-div-eq-div-mul}
+use native.Mathlib.Omega.{arith}
+use borrow.Author.Tests.{lt-ltb, le-ltb, eq-eqb, ne-eqb}
+use lib.ListN.{length, getD, drop, length-append, length-drop}
+use lib.Seq.{getD-drop, drop-drop, sets}
+use Rattle.octets.proofs.Stores.{sets-append}
+use Rattle.octets.specs.Word.{word, high, low}
+use Rattle.meaning.specs.declared.Refusal.the-variants.{EndsEarly, OtherVersion}
+use Rattle.meaning.specs.declared.Checked.the-variants.{Fine, Fault}
+use Rattle.meaning.specs.Sizes.{ensembleBytes, serviceBytes, enBytes, svBytes}
+use Rattle.meaning.specs.Listing.{svRecord, enRecord, ensembleListing}
+use Rattle.meaning.specs.Reading.{ensemblesChecks, versionIn, servicesIn, servicesRoom, inside, past, serviceAt, servicesAt, ensembleAt, ensemblesAt}
+use Rattle.meaning.proofs.Checks.{ensemble-passes}
+use Rattle.meaning.proofs.Lengths.{length-servicesAt, length-records}
+
+-- the services of an ensemble take few bytes
+pub room-small : {n s : ℕ} → n < 256 → s < 8 → n * (serviceBytes + s) < 2560
+room-small {n} {s} h k =
+    let few : n ≤ 255 = omega arith in
+    let wide : serviceBytes + s ≤ 10 = omega arith in
+    omega (arith, mul-le-mul few wide)
+
+-- ---- the checks on n ensembles from the place at on
+
+module _ (xs : List ℕ) (at e s : ℕ) where
+  -- the fields of the ensemble there
+  version-at : versionIn (drop at xs) ≡ getD xs (at + 1) 0 % 32
+  version-at = ap (λ (b : ℕ). b % 32) (getD-drop at xs 1 0)
+
+  pub services-at : servicesIn e (drop at xs) ≡ getD xs (at + (3 + e)) 0
+  services-at = getD-drop at xs (3 + e) 0
+
+  pub room-at : servicesRoom e s (drop at xs) ≡ getD xs (at + (3 + e)) 0 * (serviceBytes + s)
+  room-at = ap (λ (n : ℕ). n * (serviceBytes + s)) services-at
+
+  pub inside-at : inside e (drop at xs) ≡ drop (at + (ensembleBytes + e)) xs
+  inside-at = drop-drop (ensembleBytes + e) at xs
+
+  pub past-at : past e s (drop at xs) ≡ drop (at + (ensembleBytes + e) + getD xs (at + (3 + e)) 0 * (serviceBytes + s)) xs
+  past-at = ap₂ drop room-at inside-at ∙ drop-drop (getD xs (at + (3 + e)) 0 * (serviceBytes + s)) (at + (ensembleBytes + e)) xs
+
+  pub none-there : (n : ℕ) → n ≤ 0 → ensemblesChecks e s n (drop at xs) ≡ Fine
+  unfolding ensemblesChecks
+  none-there zero z = refl
+  none-there (suc n) z = absurd (omega arith)
+
+  pub short-there : (n : ℕ) → 0 < n → length xs - at < ensembleBytes + e → ensemblesChecks e s n (drop at xs) ≡ Fault EndsEarly
+  unfolding ensemblesChecks
+  short-there zero z h = absurd (omega arith)
+  short-there (suc n) z h = simp (length-drop at xs, lt-ltb _ _ h)
+
+  pub other-there : (n : ℕ) → 0 < n → ensembleBytes + e ≤ length xs - at → (getD xs (at + 1) 0 % 32 ≡ 0 → ⊥) → ensemblesChecks e s n (drop at xs) ≡ Fault OtherVersion
+  unfolding ensemblesChecks
+  other-there zero z h v = absurd (omega arith)
+  other-there (suc n) z h v = simp (length-drop at xs, le-ltb _ _ h, version-at, ne-eqb _ _ v)
+
+  pub crowded-there : (n : ℕ) → 0 < n → ensembleBytes + e ≤ length xs - at → getD xs (at + 1) 0 % 32 ≡ 0 → length xs - (at + (ensembleBytes + e)) < getD xs (at + (3 + e)) 0 * (serviceBytes + s) → ensemblesChecks e s n (drop at xs) ≡ Fault EndsEarly
+  unfolding ensemblesChecks
+  crowded-there zero z h v r = absurd (omega arith)
+  crowded-there (suc n) z h v r =
+      simp (drop-drop, length-drop, le-ltb _ _ h, version-at, eq-eqb _ _ v, room-at, lt-ltb _ _ r)
+
+  pub next-there : (n : ℕ) → 0 < n → ensembleBytes + e ≤ length xs - at → getD xs (at + 1) 0 % 32 ≡ 0 → getD xs (at + (3 + e)) 0 * (serviceBytes + s) ≤ length xs - (at + (ensembleBytes + e)) → ensemblesChecks e s n (drop at xs) ≡ ensemblesChecks e s (n - 1) (drop (at + (ensembleBytes + e) + getD xs (at + (3 + e)) 0 * (serviceBytes + s)) xs)
+  unfolding ensemblesChecks
+  next-there zero z h v r = absurd (omega arith)
+  next-there (suc n) z h v r =
+      let one : suc n - 1 ≡ n = omega arith in
+      rw one (simp (drop-drop, length-drop, le-ltb _ _ h, version-at, eq-eqb _ _ v, room-at, le-ltb _ _ r))
+
+-- ---- the records, as the code has their bytes
+
+getD-there : (xs : List ℕ) (at : ℕ) → getD (drop at xs) 0 0 ≡ getD xs at 0
+getD-there xs at = getD-drop at xs 0 0 ∙ ap (λ (k : ℕ). getD xs k 0) (add-zero at)
+
+word-there : (xs : List ℕ) (at : ℕ) → word (getD (drop at xs) 0 0) (getD (drop at xs) 1 0) ≡ word (getD xs at 0) (getD xs (at + 1) 0)
+word-there xs at = ap₂ word (getD-there xs at) (getD-drop at xs 1 0)
+
+pub service-there : (xs : List ℕ) (at w hi lo : ℕ) → w ≡ word (getD xs at 0) (getD xs (at + 1) 0) → hi ≡ high w → lo ≡ low w → let third = getD xs (at + 2) 0 in 0x53 ∷ 0x56 ∷ hi ∷ lo ∷ third / 8 % 4 ∷ third / 2 % 4 ∷ third % 2 ∷ [] ≡ svRecord (serviceAt (drop at xs))
+service-there xs at w hi lo e p q =
+    let id : w ≡ word (getD (drop at xs) 0 0) (getD (drop at xs) 1 0) = e ∙ sym (word-there xs at) in
+    let third : getD xs (at + 2) 0 ≡ getD (drop at xs) 2 0 = sym (getD-drop at xs 2 0) in
+    let first = p ∙ ap high id in
+    let second = q ∙ ap low id in
+    λ i. 0x53 ∷ 0x56 ∷ first i ∷ second i ∷ third i / 8 % 4 ∷ third i / 2 % 4 ∷ third i % 2 ∷ []
+
+pub ensemble-there : (xs : List ℕ) (at e s : ℕ) → let third = getD xs (at + 2) 0 in 0x45 ∷ 0x4E ∷ getD xs at 0 ∷ third / 32 ∷ third % 32 ∷ getD xs (at + (3 + e)) 0 ∷ [] ≡ enRecord (ensembleAt e s (drop at xs))
+ensemble-there xs at e s =
+    let ys : List ℕ = drop at xs in
+    let t : ℕ = getD ys 2 0 in
+    let third : getD xs (at + 2) 0 ≡ t = sym (getD-drop at xs 2 0) in
+    let id = sym (getD-there xs at) in
+    let flag : t / 32 ≡ 4 * (t / 128) + 2 * (t / 64 % 2) + t / 32 % 2 =
+        omega (arith, div-div-eq-div-mul t 32 2, div-div-eq-div-mul t 64 2) in
+    let flags = ap (λ (b : ℕ). b / 32) third ∙ flag in
+    let count = sym (length-servicesAt s (servicesIn e ys) (inside e ys) ∙ services-at xs at e s) in
+    λ i. 0x45 ∷ 0x4E ∷ id i ∷ flags i ∷ third i % 32 ∷ count i ∷ []
+
+-- ---- one record after the other
+
+-- n rows of w bytes from the place at on: the first, and the rest
+pub row-first : (at w L n : ℕ) → 0 < n → at + n * w ≤ L → at + w ≤ L
+row-first at w L zero z h = absurd (omega arith)
+row-first at w L (suc n) z h = omega arith
+
+pub row-rest : (at w L n : ℕ) → 0 < n → at + n * w ≤ L → at + w + (n - 1) * w ≤ L
+row-rest at w L zero z h = absurd (omega arith)
+row-rest at w L (suc n) z h = let one : suc n - 1 ≡ n = omega arith in rw one (omega arith)
+
+pub services-next : (xs l m : List ℕ) (at to s n : ℕ) → 0 < n → m ≡ sets l to (svRecord (serviceAt (drop at xs))) → sets m (to + svBytes) (flatMap svRecord (servicesAt s (n - 1) (drop (at + (serviceBytes + s)) xs))) ≡ sets l to (flatMap svRecord (servicesAt s n (drop at xs)))
+services-next xs l m at to s zero z e = absurd (omega arith)
+services-next xs l m at to s (suc n) z e =
+    let one : suc n - 1 ≡ n = omega arith in
+    let rest : List ℕ = flatMap svRecord (servicesAt s n (drop (serviceBytes + s) (drop at xs))) in
+    ap (λ (k : ℕ). sets m (to + svBytes) (flatMap svRecord (servicesAt s k (drop (at + (serviceBytes + s)) xs)))) one
+    ∙ ap₂ (λ (o t : List ℕ). sets o (to + svBytes) (flatMap svRecord (servicesAt s n t))) e (sym (drop-drop (serviceBytes + s) at xs))
+    ∙ sym (sets-append (svRecord (serviceAt (drop at xs))) rest l to)
+    ∙ unfold flatMap servicesAt in refl
+
+pub services-none : (xs l : List ℕ) (at to s n : ℕ) → n ≤ 0 → sets l to (flatMap svRecord (servicesAt s n (drop at xs))) ≡ l
+unfolding flatMap servicesAt
+services-none xs l at to s zero z = refl
+services-none xs l at to s (suc n) z = absurd (omega arith)
+
+pub ensemble-next : (xs l : List ℕ) (at to e s : ℕ) → sets (sets l to (enRecord (ensembleAt e s (drop at xs)))) (to + enBytes) (flatMap svRecord (servicesAt s (getD xs (at + (3 + e)) 0) (drop (at + (ensembleBytes + e)) xs))) ≡ sets l to (ensembleListing (ensembleAt e s (drop at xs)))
+unfolding ensembleListing
+ensemble-next xs l at to e s =
+    let en : List ℕ = enRecord (ensembleAt e s (drop at xs)) in
+    ap₂ (λ (n : ℕ) (t : List ℕ). sets (sets l to en) (to + enBytes) (flatMap svRecord (servicesAt s n t)))
+        (sym (services-at xs at e s)) (sym (inside-at xs at e s))
+    ∙ sym (sets-append en (flatMap svRecord (servicesAt s (servicesIn e (drop at xs)) (inside e (drop at xs)))) l to)
+
+-- ---- one ensemble after the other: n from the place at on, that passed, the first of them with k services
+
+-- the place after the first
+abbrev pub after : ℕ → ℕ → ℕ → ℕ → ℕ
+after at e s k = at + (ensembleBytes + e) + k * (serviceBytes + s)
+
+past-after : (xs : List ℕ) (at e s k : ℕ) → k ≡ servicesIn e (drop at xs) → past e s (drop at xs) ≡ drop (after at e s k) xs
+past-after xs at e s k is =
+    drop-drop (servicesRoom e s (drop at xs)) (ensembleBytes + e) (drop at xs)
+    ∙ drop-drop (ensembleBytes + e + servicesRoom e s (drop at xs)) at xs
+    ∙ ap (λ (n : ℕ). drop n xs)
+        (sym (add-assoc at (ensembleBytes + e) (servicesRoom e s (drop at xs))) ∙ ap (λ (m : ℕ). after at e s m) (sym is))
+
+pub ensembles-some : (xs : List ℕ) (at e s n k : ℕ) → at ≤ length xs → 0 < n → ensemblesChecks e s n (drop at xs) ≡ Fine → k ≡ servicesIn e (drop at xs) → (after at e s k ≤ length xs) × (ensemblesChecks e s (n - 1) (drop (after at e s k) xs) ≡ Fine)
+ensembles-some xs at e s zero k inl some fine is = absurd (omega arith)
+ensembles-some xs at e s (suc n) k inl some fine is =
+    let h = ensemble-passes e s n (drop at xs) fine in
+    let one : suc n - 1 ≡ n = omega arith in
+    (omega
+     (arith,
+      h .0 .fields,
+      h .0 .services,
+      length-drop at xs,
+      length-drop (ensembleBytes + e) (drop at xs),
+      ap (λ (m : ℕ). m * (serviceBytes + s)) is),
+     rw one (ap (ensemblesChecks e s n) (sym (past-after xs at e s k is)) ∙ h .1))
+
+pub ensembles-next : (xs : List ℕ) (at e s n k : ℕ) → 0 < n → k ≡ servicesIn e (drop at xs) → flatMap ensembleListing (ensemblesAt e s n (drop at xs)) ≡ ensembleListing (ensembleAt e s (drop at xs)) ++ flatMap ensembleListing (ensemblesAt e s (n - 1) (drop (after at e s k) xs))
+unfolding flatMap ensemblesAt
+ensembles-next xs at e s zero k some is = absurd (omega arith)
+ensembles-next xs at e s (suc n) k some is =
+    let one : suc n - 1 ≡ n = omega arith in
+    rw one
+    (ap (λ (t : List ℕ). ensembleListing (ensembleAt e s (drop at xs)) ++ flatMap ensembleListing (ensemblesAt e s n t)) (past-after xs at e s k is))
+
+pub ensembles-none : (xs : List ℕ) (at e s n : ℕ) → n ≤ 0 → flatMap ensembleListing (ensemblesAt e s n (drop at xs)) ≡ []
+unfolding flatMap ensemblesAt
+ensembles-none xs at e s zero z = refl
+ensembles-none xs at e s (suc n) z = absurd (omega arith)
+
+pub length-ensemble : (xs : List ℕ) (at e s k : ℕ) → k ≡ servicesIn e (drop at xs) → length (ensembleListing (ensembleAt e s (drop at xs))) ≡ enBytes + svBytes * k
+unfolding ensembleListing
+length-ensemble xs at e s k is =
+    let ys : List ℕ = drop at xs in
+    omega (arith, length-records (servicesAt s (servicesIn e ys) (inside e ys)), length-servicesAt s (servicesIn e ys) (inside e ys))
+
+pub length-ensembles : (xs : List ℕ) (at e s n k : ℕ) → 0 < n → k ≡ servicesIn e (drop at xs) → length (flatMap ensembleListing (ensemblesAt e s n (drop at xs))) ≡ enBytes + svBytes * k + length (flatMap ensembleListing (ensemblesAt e s (n - 1) (drop (after at e s k) xs)))
+length-ensembles xs at e s n k some is =
+    let one : List ℕ = ensembleListing (ensembleAt e s (drop at xs)) in
+    let rest : List ℕ = flatMap ensembleListing (ensemblesAt e s (n - 1) (drop (after at e s k) xs)) in
+    omega (arith, ap length (ensembles-next xs at e s n k some is), length-append one rest, length-ensemble xs at e s k is)
+
+pub ensembles-stored : (xs l m : List ℕ) (at to e s n k : ℕ) → 0 < n → k ≡ servicesIn e (drop at xs) → m ≡ sets l to (ensembleListing (ensembleAt e s (drop at xs))) → sets m (to + (enBytes + svBytes * k)) (flatMap ensembleListing (ensemblesAt e s (n - 1) (drop (after at e s k) xs))) ≡ sets l to (flatMap ensembleListing (ensemblesAt e s n (drop at xs)))
+ensembles-stored xs l m at to e s n k some is stored =
+    let one : List ℕ = ensembleListing (ensembleAt e s (drop at xs)) in
+    let rest : List ℕ = flatMap ensembleListing (ensemblesAt e s (n - 1) (drop (after at e s k) xs)) in
+    ap₂ (λ (o : List ℕ) (b : ℕ). sets o (to + b) rest) stored (sym (length-ensemble xs at e s k is))
+    ∙ sym (sets-append one rest l to)
+    ∙ ap (sets l to) (sym (ensembles-next xs at e s n k some is))
