@@ -42,7 +42,7 @@ unfolding servicesAt
 length-servicesAt s zero zs = refl
 length-servicesAt s (suc n) zs = ap suc (length-servicesAt s n _)
 
-length-ensemblesAt : (e s n : ℕ) (ys : List ℕ) → length (ensemblesAt e s n ys) ≡ n
+pub length-ensemblesAt : (e s n : ℕ) (ys : List ℕ) → length (ensemblesAt e s n ys) ≡ n
 unfolding ensemblesAt
 length-ensemblesAt e s zero ys = refl
 length-ensemblesAt e s (suc n) ys = ap suc (length-ensemblesAt e s n _)

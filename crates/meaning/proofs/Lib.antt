@@ -3,3 +3,4 @@ pub mod Rows
 pub mod Complete
 pub mod Sound
 pub mod Lengths
+pub mod Answers

@@ -2,20 +2,23 @@
 use mathlib.Core.Path.{_≡_, refl, sym, ap, ap₂, _∙_, subst}
 use mathlib.Core.List.{List, [], _∷_, _++_, flatMap}
 use Prim.Native.Nat.{ℕ, zero, suc, _+_, _-_, _*_, _/_, _%_, _≤_, _<_}
-use native.Mathlib.Nat.{mul-le-mul, add-zero, add-assoc, div-div-eq-div-mul}
+use native.Mathlib.Nat.{mul-le-mul, add-zero, zero-add, add-assoc, div-div-eq-div-mul}
 use native.Mathlib.Omega.{arith}
 use borrow.Author.Tests.{lt-ltb, le-ltb, eq-eqb, ne-eqb}
 use lib.ListN.{length, getD, drop, length-append, length-drop}
-use lib.Seq.{getD-drop, drop-drop, sets}
+use lib.Seq.{getD-drop, drop-drop, sets, sets-eq}
 use Rattle.octets.proofs.Stores.{sets-append}
 use Rattle.octets.specs.Word.{word, high, low}
 use Rattle.meaning.specs.declared.Refusal.the-variants.{EndsEarly, OtherVersion}
 use Rattle.meaning.specs.declared.Checked.the-variants.{Fine, Fault}
-use Rattle.meaning.specs.Sizes.{ensembleBytes, serviceBytes, enBytes, svBytes}
-use Rattle.meaning.specs.Listing.{svRecord, enRecord, ensembleListing}
-use Rattle.meaning.specs.Reading.{ensemblesChecks, versionIn, servicesIn, servicesRoom, inside, past, serviceAt, servicesAt, ensembleAt, ensemblesAt}
+use Rattle.meaning.specs.declared.Kind.{Kind}
+use Rattle.meaning.specs.declared.Read.the-variants.{Listed}
+use Rattle.meaning.specs.Sizes.{ensembleBytes, serviceBytes, tsBytes, enBytes, svBytes, longestListing}
+use Rattle.meaning.specs.Listing.{svRecord, tsRecord, enRecord, ensembleListing, listing}
+use Rattle.meaning.specs.Reading.{ensemblesChecks, versionIn, servicesIn, servicesRoom, inside, past, serviceAt, servicesAt, ensembleAt, ensemblesAt, eIn, sIn, streamIn, countIn, payload, listIn, checks, kindIn, minorIn, ReadSays}
 use Rattle.meaning.proofs.Checks.{ensemble-passes}
-use Rattle.meaning.proofs.Lengths.{length-servicesAt, length-records}
+use Rattle.meaning.proofs.Lengths.{length-servicesAt, length-ensemblesAt, length-records, listing-fits}
+use Rattle.meaning.proofs.Answers.{says-listed}
 
 -- the services of an ensemble take few bytes
 pub room-small : {n s : ℕ} → n < 256 → s < 8 → n * (serviceBytes + s) < 2560
@@ -192,3 +195,33 @@ ensembles-stored xs l m at to e s n k some is stored =
     ap₂ (λ (o : List ℕ) (b : ℕ). sets o (to + b) rest) stored (sym (length-ensemble xs at e s k is))
     ∙ sym (sets-append one rest l to)
     ∙ ap (sets l to) (sym (ensembles-next xs at e s n k some is))
+
+-- ---- the stream's record, then the ensembles
+
+pub length-listed : (xs : List ℕ) → length (listing (listIn xs)) ≡ tsBytes + length (flatMap ensembleListing (ensemblesAt (eIn xs) (sIn xs) (countIn xs) (payload xs)))
+unfolding listing listIn
+length-listed xs = omega arith
+
+pub listing-stored : (xs l m : List ℕ) (w hi lo : ℕ) → w ≡ streamIn xs → hi ≡ high w → lo ≡ low w → m ≡ sets (sets l 0 (0x54 ∷ 0x53 ∷ hi ∷ lo ∷ countIn xs ∷ [])) tsBytes (flatMap ensembleListing (ensemblesAt (eIn xs) (sIn xs) (countIn xs) (payload xs))) → m ≡ sets l 0 (listing (listIn xs))
+unfolding listing listIn
+listing-stored xs l m w hi lo e p q stored =
+    let rest : List ℕ = flatMap ensembleListing (ensemblesAt (eIn xs) (sIn xs) (countIn xs) (payload xs)) in
+    let first = p ∙ ap high e in
+    let second = q ∙ ap low e in
+    let count = sym (length-ensemblesAt (eIn xs) (sIn xs) (countIn xs) (payload xs)) in
+    let ts : 0x54 ∷ 0x53 ∷ hi ∷ lo ∷ countIn xs ∷ [] ≡ tsRecord (listIn xs) = λ i. 0x54 ∷ 0x53 ∷ first i ∷ second i ∷ count i ∷ [] in
+    stored
+    ∙ ap (λ (t : List ℕ). sets (sets l 0 t) tsBytes rest) ts
+    ∙ sym (sets-append (tsRecord (listIn xs)) rest l 0)
+
+-- ---- the answer
+
+pub read-stored : (xs before after : List ℕ) (k : Kind) (n : ℕ) → longestListing ≤ length before → checks xs ≡ Fine → k ≡ kindIn xs → n ≡ length (listing (listIn xs)) → after ≡ sets before 0 (listing (listIn xs)) → ReadSays xs before (Listed k (minorIn xs) n) after
+read-stored xs before after k n room fine kind length-is stored =
+    let l : List ℕ = listing (listIn xs) in
+    let fits : 0 + length l ≤ length before = omega (arith, listing-fits xs fine) in
+    let says = says-listed xs before room fine in
+    record {
+      answers = (λ i. Listed (kind i) (minorIn xs) (length-is i)) ∙ says .answers;
+      leaves = stored ∙ sets-eq l before 0 fits ∙ ap (λ (m : ℕ). l ++ drop m before) (zero-add (length l)) ∙ says .leaves
+    }

@@ -133,3 +133,45 @@ fn write_ensembles(chunk: &[u8], from: usize, e: usize, s: usize, count: usize, 
     }
     to
 }
+
+// The listing of a chunk that the checks passed, at the start of the output; its length.
+fn write_listing(chunk: &[u8], out: &mut [u8]) -> usize
+    requires { ⌜ (checks (now chunk) ≡ Checked.Fine) × (longestListing ≤ length (now out)) ⌝ }
+    ensures { λ r. ⌜ r ≡ length (listing (listIn (now (chunk .entry)))) ⌝ }
+    ensures { λ _. ⌜ now (out .exit) ≡ sets (now (out .entry)) 0 (listing (listIn (now (chunk .entry)))) ⌝ }
+{
+    let h = (chunk[0] % 8) as usize;
+    let second = chunk[1];
+    let e = (second / 32) as usize;
+    let s = (second / 4 % 8) as usize;
+    let stream = octets::word_of(chunk[2], chunk[3]);
+    let count = chunk[4 + h];
+    out[0] = b'T';
+    out[1] = b'S';
+    out[2] = octets::high_of(stream);
+    out[3] = octets::low_of(stream);
+    out[4] = count;
+    write_ensembles(chunk, HEADER + h, e, s, count as usize, out, TS_RECORD)
+}
+
+// Reads a chunk: its listing goes to the start of the lent buffer, and a refusal writes nothing.
+pub fn read(chunk: &[u8], out: &mut [u8]) -> Read
+    ensures { λ r. ⌜ ReadSays (now (chunk .entry)) (now (out .entry)) r (now (out .exit)) ⌝ }
+{
+    if out.len() < LONGEST_LISTING {
+        return Read::Refused(Refusal::ShortBuffer);
+    }
+    match check_chunk(chunk) {
+        Checked::Fault(refusal) => Read::Refused(refusal),
+        Checked::Fine => {
+            let length = write_listing(chunk, out);
+            let kind = meaning::kind_of(chunk[1] % 2);
+            let minor = chunk[0] / 8 % 8;
+            Read::Listed {
+                kind: kind,
+                minor: minor,
+                length: length,
+            }
+        }
+    }
+}
