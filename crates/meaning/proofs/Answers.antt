@@ -1,19 +1,29 @@
 -- What the public call answers and leaves, case by case; and that its promise has one result only. Assumes nothing.
-use mathlib.Core.Path.{_≡_, refl, sym, ap, ap₂, _∙_}
-use mathlib.Core.Bool.{cond}
-use mathlib.Core.List.{List, _++_}
-use Prim.Native.Nat.{ℕ, _≤_, _<_}
-use borrow.Author.Tests.{lt-ltb, le-ltb}
+use mathlib.Core.Path.{_≡_, refl, sym, ap, _∙_, subst}
+use mathlib.Core.Bool.{Bool, true, false, cond, not, _||_}
+use mathlib.Core.List.{List, [], _∷_, _++_}
+use Prim.Native.Nat.{ℕ, zero, suc, _+_, _≤_, _<_}
+use native.Mathlib.Omega.{arith}
+use borrow.Author.Tests.{lt-ltb, le-ltb, ltb-true, ltb-false}
+use lib.Dec.{T, ltb, eqb}
 use lib.ListN.{length, drop}
+use Rattle.octets.specs.Bits.{Bytes}
+use Rattle.meaning.specs.declared.Kind.{Kind}
 use Rattle.meaning.specs.declared.Refusal.{Refusal}
-use Rattle.meaning.specs.declared.Refusal.the-variants.{ShortBuffer}
+use Rattle.meaning.specs.declared.Refusal.the-variants.{ShortBuffer, OtherMajor, TooLong, EndsEarly, OtherVersion}
 use Rattle.meaning.specs.declared.Checked.{Checked}
 use Rattle.meaning.specs.declared.Checked.the-variants.{Fine, Fault}
 use Rattle.meaning.specs.declared.Read.{Read}
 use Rattle.meaning.specs.declared.Read.the-variants.{Listed, Refused}
-use Rattle.meaning.specs.Sizes.{longestListing}
+use Rattle.meaning.specs.Sizes.{longestChunk, headerBytes, ensembleBytes, longestListing}
+use Rattle.meaning.specs.Numbers.{numberOf, among}
+use Rattle.meaning.specs.Lists.{FicList}
+use Rattle.meaning.specs.Layout.{Carries}
 use Rattle.meaning.specs.Listing.{listing}
-use Rattle.meaning.specs.Reading.{checks, kindIn, minorIn, listIn, answerTo, readAnswer, leftBy, readBuffer, ReadSays}
+use Rattle.meaning.specs.Reading.{check, checks, ensemblesChecks, majorIn, hIn, versionIn, servicesRoom, inside, past, eIn, sIn, countIn, payload, kindIn, minorIn, listIn, answerTo, readAnswer, leftBy, readBuffer, ReadSays}
+use Rattle.meaning.proofs.Checks.{checks-major}
+use Rattle.meaning.proofs.Complete.{carried-accepted}
+use Rattle.meaning.proofs.Sound.{accepted-carried}
 
 -- an answer that is the right one leaves what the right one leaves
 says : (xs before : List ℕ) {answer : Read} → answer ≡ readAnswer xs before → ReadSays xs before answer (leftBy answer xs before)
@@ -40,3 +50,125 @@ says-listed xs before h e = says xs before (sym (answer-checked xs before h ∙ 
 -- two results that keep the promise are one
 pub says-once : {xs before : List ℕ} {a b : Read} {p q : List ℕ} → ReadSays xs before a p → ReadSays xs before b q → (a ≡ b) × (p ≡ q)
 says-once s t = (s .answers ∙ sym (t .answers), s .leaves ∙ sym (t .leaves))
+
+-- ---- what the layout carries, the call reads; what the call lists, the layout carries
+
+pub carried-says : {xs : List ℕ} {k : Kind} {m : ℕ} {l : FicList} → Carries xs k m l → (before : List ℕ) → longestListing ≤ length before → ReadSays xs before (Listed k m (length (listing l))) (listing l ++ drop (length (listing l)) before)
+carried-says {xs} {k} {m} {l} h before room =
+    let a = carried-accepted h in
+    let s = says-listed xs before room (a .passes) in
+    record {
+      answers = (λ i. Listed (sym (a .kind) i) (sym (a .minor) i) (length (listing (sym (a .list) i)))) ∙ s .answers;
+      leaves = (λ i. listing (sym (a .list) i) ++ drop (length (listing (sym (a .list) i))) before) ∙ s .leaves;
+    }
+
+-- an answer that lists comes of checks that passed
+listed-passed : (xs before : List ℕ) {k : Kind} {m n : ℕ} → readAnswer xs before ≡ Listed k m n → checks xs ≡ Fine
+unfolding readAnswer
+listed-passed xs before {k} {m} {n} e = go (ltb (length before) longestListing) (checks xs) e
+  where
+    go : (t : Bool) (v : Checked) → cond t (Refused ShortBuffer) (answerTo v xs) ≡ Listed k m n → v ≡ Fine
+    go true v p = let z : _≡_ {A = ℕ} 0 1 = cc in absurd (omega arith)
+    go false Fine p = refl
+    go false (Fault f) p = let z : _≡_ {A = ℕ} 0 1 = cc in absurd (omega arith)
+
+listed-room : (xs before : List ℕ) {k : Kind} {m n : ℕ} → readAnswer xs before ≡ Listed k m n → longestListing ≤ length before
+unfolding readAnswer
+listed-room xs before {k} {m} {n} e = ltb-false _ _ (go (ltb (length before) longestListing) (answerTo (checks xs) xs) e)
+  where
+    go : (t : Bool) (r : Read) → cond t (Refused ShortBuffer) r ≡ Listed k m n → t ≡ false
+    go true r p = let z : _≡_ {A = ℕ} 0 1 = cc in absurd (omega arith)
+    go false r p = refl
+
+pub listed-carried : {xs before after : List ℕ} {k : Kind} {m n : ℕ} → Bytes xs → ReadSays xs before (Listed k m n) after → (l : FicList) × Carries xs k m l × (n ≡ length (listing l)) × (after ≡ listing l ++ drop n before)
+unfolding readAnswer readBuffer
+listed-carried {xs} {before} {after} {k} {m} {n} b s =
+    let fine = listed-passed xs before (sym (s .answers)) in
+    let room : longestListing ≤ length before = listed-room xs before (sym (s .answers)) in
+    let t = says-listed xs before room fine in
+    let same = says-once s t in
+    let kind : kindIn xs ≡ k = cc (same .0) in
+    let minor : minorIn xs ≡ m = cc (same .0) in
+    let size : n ≡ length (listing (listIn xs)) = cc (same .0) in (
+      listIn xs,
+      accepted-carried b (record { passes = fine; kind = kind; minor = minor; list = refl }),
+      size,
+      same .1 ∙ ap (λ (j : ℕ). listing (listIn xs) ++ drop j before) (sym size),
+    )
+
+-- a chunk carries one list, for one frame, from one edition
+pub carries-once : {xs : List ℕ} {k j : Kind} {m n : ℕ} {l i : FicList} → Carries xs k m l → Carries xs j n i → (k ≡ j) × (m ≡ n) × (l ≡ i)
+carries-once h g =
+    let a = carried-accepted h in
+    let b = carried-accepted g in
+    (sym (a .kind) ∙ b .kind, sym (a .minor) ∙ b .minor, sym (a .list) ∙ b .list)
+
+-- the dress does not matter: two chunks that carry one list leave the same in a buffer, whatever their minor editions, extensions, reserved
+-- bits and stuffing
+pub dress-disregarded : {xs ys : List ℕ} {k : Kind} {m n : ℕ} {l : FicList} → Carries xs k m l → Carries ys k n l → (before : List ℕ) → readBuffer xs before ≡ readBuffer ys before
+dress-disregarded {xs} {ys} h g before = go (ltb (length before) longestListing) refl
+  where
+    go : (t : Bool) → ltb (length before) longestListing ≡ t → readBuffer xs before ≡ readBuffer ys before
+    go true e =
+        let short = ltb-true _ _ e in
+        sym (says-short xs before short .leaves) ∙ says-short ys before short .leaves
+    go false e =
+        let room = ltb-false _ _ e in
+        sym (carried-says h before room .leaves) ∙ carried-says g before room .leaves
+
+-- ---- the numbers of the reader
+
+-- the refusals that some checks can give are among some numbers
+Among : List ℕ → Checked → Type 0
+Among ns v = (f : Refusal) → v ≡ Fault f → T (among ns (numberOf f))
+
+among-fine : (ns : List ℕ) → Among ns Fine
+unfolding Among
+among-fine ns f e = let z : _≡_ {A = ℕ} 0 1 = cc in absurd (omega arith)
+
+among-check : (ns : List ℕ) (t : Bool) (f : Refusal) (v : Checked) → T (among ns (numberOf f)) → Among ns v → Among ns (check t f v)
+unfolding Among
+among-check ns true f v m a g e = let same : f ≡ g = cc in subst (λ (x : Refusal). T (among ns (numberOf x))) same m
+among-check ns false f v m a g e = a g e
+
+among-more : (m : ℕ) (ms : List ℕ) (n : ℕ) → T (among ms n) → T (among (m ∷ ms) n)
+among-more m ms n t = go (eqb n m)
+  where
+    go : (b : Bool) → T (b || among ms n)
+    go true = tt
+    go false = t
+
+abbrev chunkNumbers : List ℕ
+chunkNumbers = 5 ∷ 8 ∷ 9 ∷ 11 ∷ []
+
+ensembles-among : (e s n : ℕ) (ys : List ℕ) → Among chunkNumbers (ensemblesChecks e s n ys)
+unfolding ensemblesChecks
+ensembles-among e s zero ys = among-fine chunkNumbers
+ensembles-among e s (suc n) ys =
+    among-check chunkNumbers (ltb (length ys) (ensembleBytes + e)) EndsEarly _ tt
+    (among-check chunkNumbers (not (eqb (versionIn ys) 0)) OtherVersion _ tt
+    (among-check chunkNumbers (ltb (length (inside e ys)) (servicesRoom e s ys)) EndsEarly _ tt (ensembles-among e s n (past e s ys))))
+
+pub checks-among : (xs : List ℕ) (f : Refusal) → checks xs ≡ Fault f → T (among (5 ∷ 8 ∷ 9 ∷ 11 ∷ []) (numberOf f))
+unfolding checks Among
+checks-among xs =
+    among-check chunkNumbers (ltb longestChunk (length xs)) TooLong _ tt
+    (among-check chunkNumbers (ltb (length xs) 2) EndsEarly _ tt
+    (among-check chunkNumbers (not (eqb (majorIn xs) 0)) OtherMajor _ tt
+    (among-check chunkNumbers (ltb (length xs) (headerBytes + hIn xs)) EndsEarly _ tt (ensembles-among (eIn xs) (sIn xs) (countIn xs) (payload xs)))))
+
+-- a refusal is one of five numbers, and writes nothing
+pub refused-says : {xs before after : List ℕ} {f : Refusal} → ReadSays xs before (Refused f) after → T (among (1 ∷ 5 ∷ 8 ∷ 9 ∷ 11 ∷ []) (numberOf f)) × (after ≡ before)
+unfolding readAnswer readBuffer
+refused-says {xs} {before} {after} {f} s = (
+  go (ltb (length before) longestListing) (checks xs) (checks-among xs) (sym (s .answers)),
+  s .leaves ∙ ap (λ (r : Read). leftBy r xs before) (sym (s .answers)),
+)
+  where
+    go : (t : Bool) (v : Checked) → ((g : Refusal) → v ≡ Fault g → T (among chunkNumbers (numberOf g))) → cond t (Refused ShortBuffer) (answerTo v xs) ≡ Refused f → T (among (1 ∷ chunkNumbers) (numberOf f))
+    go true v a p = let same : ShortBuffer ≡ f = cc in subst (λ (x : Refusal). T (among (1 ∷ chunkNumbers) (numberOf x))) same tt
+    go false Fine a p = let z : _≡_ {A = ℕ} 0 1 = cc in absurd (omega arith)
+    go false (Fault g) a p = let same : g ≡ f = cc in among-more 1 chunkNumbers (numberOf f) (a f (ap Fault same))
+
+pub says-major : (xs before : List ℕ) → longestListing ≤ length before → 2 ≤ length xs → length xs ≤ longestChunk → (majorIn xs ≡ 0 → ⊥) → ReadSays xs before (Refused OtherMajor) before
+says-major xs before room two longest other = says-refused xs before room (checks-major xs longest two other)

@@ -32,13 +32,14 @@ unfolding ensemblesChecks
 ensemble-passes e s n ys p =
     let a = check-passed _ EndsEarly _ p in
     let b = check-passed _ OtherVersion _ (a .1) in
-    let d = check-passed _ EndsEarly _ (b .1) in
-    (record {
-       fields = ltb-false _ _ (a .0);
-       version = eqb-true _ _ (not-false _ (b .0));
-       services = ltb-false _ _ (d .0)
-     },
-     d .1)
+    let d = check-passed _ EndsEarly _ (b .1) in (
+      record {
+        fields = ltb-false _ _ (a .0);
+        version = eqb-true _ _ (not-false _ (b .0));
+        services = ltb-false _ _ (d .0);
+      },
+      d .1,
+    )
 
 pub ensemble-fine : (e s n : ℕ) (ys : List ℕ) → EnsemblePasses e s ys → ensemblesChecks e s n (past e s ys) ≡ Fine → ensemblesChecks e s (suc n) ys ≡ Fine
 unfolding ensemblesChecks
@@ -56,13 +57,14 @@ header-passes xs p =
     let a = check-passed _ TooLong _ p in
     let b = check-passed (ltb (length xs) 2) EndsEarly _ (a .1) in
     let d = check-passed _ OtherMajor _ (b .1) in
-    let g = check-passed _ EndsEarly _ (d .1) in
-    (record {
-       longest = ltb-false _ _ (a .0);
-       major = eqb-true _ _ (not-false _ (d .0));
-       fields = ltb-false _ _ (g .0)
-     },
-     g .1)
+    let g = check-passed _ EndsEarly _ (d .1) in (
+      record {
+        longest = ltb-false _ _ (a .0);
+        major = eqb-true _ _ (not-false _ (d .0));
+        fields = ltb-false _ _ (g .0);
+      },
+      g .1,
+    )
 
 -- ---- when a header is refused, and with what
 

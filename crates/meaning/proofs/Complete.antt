@@ -48,8 +48,8 @@ services-read s (v ∷ vs) rest h x =
     let more : List ℕ = flatMap serviceRow vs ++ rest in
     ap (λ (t : List ℕ). serviceAt t ∷ servicesAt s (length vs) (drop (serviceBytes + s) t)) (append-assoc (serviceRow v) (flatMap serviceRow vs) rest)
     ∙ ap₂ _∷_ (service-read v more (each-left InWidth (serviceFields v) (flatMap serviceFields vs) h))
-        (ap (servicesAt s (length vs)) (drop-at (serviceRow v) more (serviceBytes + s) (service-length s v (x .0)))
-        ∙ services-read s vs rest (each-right InWidth (serviceFields v) (flatMap serviceFields vs) h) (x .1))
+    (ap (servicesAt s (length vs)) (drop-at (serviceRow v) more (serviceBytes + s) (service-length s v (x .0)))
+    ∙ services-read s vs rest (each-right InWidth (serviceFields v) (flatMap serviceFields vs) h) (x .1))
 
 -- ---- ensembles
 
@@ -79,7 +79,7 @@ module _ (e s : ℕ) (x : EnsembleRow) (w : Widened e s x) (rest : List ℕ) whe
   inside-row =
       ap (inside e) (row-split ∙ sym (append-assoc front (length (x .services) ∷ []) (row ++ rest)))
       ∙ drop-at (front ++ (length (x .services) ∷ [])) (row ++ rest) (ensembleBytes + e)
-          (omega (arith, w .0, length-append (x .extension) (length (x .services) ∷ [])))
+      (omega (arith, w .0, length-append (x .extension) (length (x .services) ∷ [])))
 
   room-row : servicesRoom e s (ensembleRow x ++ rest) ≡ length row
   unfolding row
@@ -94,7 +94,7 @@ module _ (e s : ℕ) (x : EnsembleRow) (w : Widened e s x) (rest : List ℕ) whe
       record {
         fields = omega (arith, w .0, ap length row-split, length-append (x .extension) (length (x .services) ∷ (row ++ rest)));
         version = omega arith;
-        services = omega (arith, room-row, ap length inside-row, length-append row rest)
+        services = omega (arith, room-row, ap length inside-row, length-append row rest);
       }
 
   ensemble-read : Held (ensembleFields x) → ensembleAt e s (ensembleRow x ++ rest) ≡ ensembleOf x
@@ -102,13 +102,13 @@ module _ (e s : ℕ) (x : EnsembleRow) (w : Widened e s x) (rest : List ℕ) whe
   ensemble-read h =
       let ys : List ℕ = ensembleRow x ++ rest in
       let held : Held (field 8 (length (x .services)) ∷ flatMap serviceFields (x .services)) =
-          each-right InWidth (run (x .extension)) (field 8 (length (x .services)) ∷ flatMap serviceFields (x .services)) (h .1 .1 .1 .1 .1 .1 .1) in
+      each-right InWidth (run (x .extension)) (field 8 (length (x .services)) ∷ flatMap serviceFields (x .services)) (h .1 .1 .1 .1 .1 .1 .1) in
       let slt : ensembleThird x / 128 ≡ x .slt = omega arith in
       let gat : ensembleThird x / 64 % 2 ≡ x .gat = omega arith in
       let eat : ensembleThird x / 32 % 2 ≡ x .eat = omega arith in
       let channel : ensembleThird x % 32 ≡ x .channel = omega arith in
       let services : servicesAt s (servicesIn e ys) (inside e ys) ≡ map serviceOf (x .services) =
-          ap₂ (servicesAt s) services-counted inside-row ∙ services-read s (x .services) rest (held .1) (w .1) in
+      ap₂ (servicesAt s) services-counted inside-row ∙ services-read s (x .services) rest (held .1) (w .1) in
       λ i. record { id = x .id; slt = slt i; gat = gat i; eat = eat i; channel = channel i; services = services i }
 
 -- the ensembles' rows, one after the other
@@ -120,8 +120,8 @@ module _ (e s : ℕ) where
       let more : List ℕ = flatMap ensembleRow xs ++ rest in
       ap (ensemblesAt e s (suc (length xs))) (append-assoc (ensembleRow x) (flatMap ensembleRow xs) rest)
       ∙ ap₂ _∷_ (ensemble-read e s x (w .0) more (each-left InWidth (ensembleFields x) (flatMap ensembleFields xs) h))
-          (ap (ensemblesAt e s (length xs)) (past-row e s x (w .0) more)
-          ∙ ensembles-read xs rest (each-right InWidth (ensembleFields x) (flatMap ensembleFields xs) h) (w .1))
+      (ap (ensemblesAt e s (length xs)) (past-row e s x (w .0) more)
+      ∙ ensembles-read xs rest (each-right InWidth (ensembleFields x) (flatMap ensembleFields xs) h) (w .1))
 
   ensembles-fine : (xs : List EnsembleRow) (rest : List ℕ) → Held (flatMap ensembleFields xs) → Each (Widened e s) xs → Each (λ x. x .version ≡ 0) xs → ensemblesChecks e s (length xs) (flatMap ensembleRow xs ++ rest) ≡ Fine
   unfolding flatMap
@@ -130,9 +130,9 @@ module _ (e s : ℕ) where
       let more : List ℕ = flatMap ensembleRow xs ++ rest in
       ap (ensemblesChecks e s (suc (length xs))) (append-assoc (ensembleRow x) (flatMap ensembleRow xs) rest)
       ∙ ensemble-fine e s (length xs) (ensembleRow x ++ more)
-          (ensemble-passes-row e s x (w .0) more (each-left InWidth (ensembleFields x) (flatMap ensembleFields xs) h) (v .0))
-          (ap (ensemblesChecks e s (length xs)) (past-row e s x (w .0) more)
-          ∙ ensembles-fine xs rest (each-right InWidth (ensembleFields x) (flatMap ensembleFields xs) h) (w .1) (v .1))
+      (ensemble-passes-row e s x (w .0) more (each-left InWidth (ensembleFields x) (flatMap ensembleFields xs) h) (v .0))
+      (ap (ensemblesChecks e s (length xs)) (past-row e s x (w .0) more)
+      ∙ ensembles-fine xs rest (each-right InWidth (ensembleFields x) (flatMap ensembleFields xs) h) (w .1) (v .1))
 
 -- ---- chunks
 
@@ -171,7 +171,7 @@ module _ (c : Chunk) (t : Sent c) where
       ap (λ (k : ℕ). drop (headerBytes + k) xs) h-read
       ∙ ap (drop (headerBytes + c .h)) (sym (append-assoc before (length (c .ensembles) ∷ []) rest))
       ∙ drop-at (before ++ (length (c .ensembles) ∷ [])) rest (headerBytes + c .h)
-          (omega (arith, t .header, length-append (c .extension) (length (c .ensembles) ∷ [])))
+      (omega (arith, t .header, length-append (c .extension) (length (c .ensembles) ∷ [])))
 
   ensembles-held : Held (flatMap ensembleFields (c .ensembles))
   unfolding chunkFields
@@ -185,8 +185,8 @@ module _ (c : Chunk) (t : Sent c) where
   unfolding listIn chunkRow rest
   list-read =
       let ensembles : ensemblesAt (eIn xs) (sIn xs) (countIn xs) (payload xs) ≡ map ensembleOf (c .ensembles) =
-          (λ i. ensemblesAt (e-read i) (s-read i) (count-read i) (payload-read i))
-          ∙ ensembles-read (c .e) (c .s) (c .ensembles) (c .stuffing) ensembles-held (t .loops) in
+      (λ i. ensemblesAt (e-read i) (s-read i) (count-read i) (payload-read i))
+      ∙ ensembles-read (c .e) (c .s) (c .ensembles) (c .stuffing) ensembles-held (t .loops) in
       λ i. record { stream = word-high-low (c .stream) i; ensembles = ensembles i }
 
   chunk-passes : c .major ≡ 0 → HeaderPasses xs
@@ -196,7 +196,7 @@ module _ (c : Chunk) (t : Sent c) where
       record {
         longest = omega (arith, t .room, ap length (wire-row c (t .held)));
         major = omega arith;
-        fields = omega (arith, h-read, t .header, length-append (c .extension) (length (c .ensembles) ∷ (flatMap ensembleRow (c .ensembles) ++ c .stuffing)))
+        fields = omega (arith, h-read, t .header, length-append (c .extension) (length (c .ensembles) ∷ (flatMap ensembleRow (c .ensembles) ++ c .stuffing)));
       }
 
   chunk-fine : c .major ≡ 0 → Each (λ x. x .version ≡ 0) (c .ensembles) → checks xs ≡ Fine

@@ -24,12 +24,13 @@ length-ensembles : (es : List Ensemble) → length (flatMap ensembleListing es) 
 unfolding flatMap ensembleListing
 length-ensembles [] = refl
 length-ensembles (e ∷ es) =
-    omega
-    (arith,
-     length-append (ensembleListing e) (flatMap ensembleListing es),
-     length-append (e .services) (flatMap (λ x. x .services) es),
-     length-records (e .services),
-     length-ensembles es)
+    omega (
+      arith,
+      length-append (ensembleListing e) (flatMap ensembleListing es),
+      length-append (e .services) (flatMap (λ x. x .services) es),
+      length-records (e .services),
+      length-ensembles es,
+    )
 
 pub length-listing : (l : FicList) → length (listing l) ≡ tsBytes + enBytes * length (l .ensembles) + svBytes * length (servicesOf l)
 unfolding listing servicesOf
@@ -55,16 +56,17 @@ ensembles-room e s (suc n) ys p =
     let h = ensemble-passes e s n ys p in
     let own : List Service = servicesAt s (servicesIn e ys) (inside e ys) in
     let more : List Service = flatMap (λ x. x .services) (ensemblesAt e s n (past e s ys)) in
-    omega
-    (arith,
-     h .0 .fields,
-     h .0 .services,
-     ensembles-room e s n (past e s ys) (h .1),
-     length-append own more,
-     length-servicesAt s (servicesIn e ys) (inside e ys),
-     length-drop (ensembleBytes + e) ys,
-     length-drop (servicesRoom e s ys) (inside e ys),
-     mul-le-mul-left (servicesIn e ys) (le-add-right serviceBytes s))
+    omega (
+      arith,
+      h .0 .fields,
+      h .0 .services,
+      ensembles-room e s n (past e s ys) (h .1),
+      length-append own more,
+      length-servicesAt s (servicesIn e ys) (inside e ys),
+      length-drop (ensembleBytes + e) ys,
+      length-drop (servicesRoom e s ys) (inside e ys),
+      mul-le-mul-left (servicesIn e ys) (le-add-right serviceBytes s),
+    )
 
 -- what the chunk has room for, the longest listing has room for; a service needs an ensemble
 counts-fit : (E S : ℕ) → headerBytes + ensembleBytes * E + serviceBytes * S ≤ longestChunk → (E ≡ 0 → S ≡ 0) → tsBytes + enBytes * E + svBytes * S ≤ longestListing
@@ -81,17 +83,19 @@ listing-fits xs p =
     let es : List Ensemble = ensemblesAt (eIn xs) (sIn xs) (countIn xs) (payload xs) in
     let S : ℕ = length (flatMap (λ x. x .services) es) in
     let none : countIn xs ≡ 0 → S ≡ 0 =
-        λ z. ap (λ (n : ℕ). length (flatMap (λ x. x .services) (ensemblesAt (eIn xs) (sIn xs) n (payload xs)))) z
-        ∙ unfold ensemblesAt flatMap in refl in
-    omega
-    (arith,
-     length-listing (listIn xs),
-     length-ensemblesAt (eIn xs) (sIn xs) (countIn xs) (payload xs),
-     counts-fit (countIn xs) S
-     (omega
-     (arith,
-      h .0 .fields,
-      h .0 .longest,
-      ensembles-room (eIn xs) (sIn xs) (countIn xs) (payload xs) (h .1),
-      length-drop (headerBytes + hIn xs) xs))
-     none)
+    λ z. ap (λ (n : ℕ). length (flatMap (λ x. x .services) (ensemblesAt (eIn xs) (sIn xs) n (payload xs)))) z
+    ∙ unfold ensemblesAt flatMap in refl in
+    omega (
+      arith,
+      length-listing (listIn xs),
+      length-ensemblesAt (eIn xs) (sIn xs) (countIn xs) (payload xs),
+      counts-fit (countIn xs) S
+          (omega (
+            arith,
+            h .0 .fields,
+            h .0 .longest,
+            ensembles-room (eIn xs) (sIn xs) (countIn xs) (payload xs) (h .1),
+            length-drop (headerBytes + hIn xs) xs,
+          ))
+          none,
+    )

@@ -4,3 +4,4 @@ pub mod Complete
 pub mod Sound
 pub mod Lengths
 pub mod Answers
+pub mod Samples

@@ -30,7 +30,7 @@ serviceRowAt s zs =
       multi = getD zs 2 0 / 8 % 4;
       status = getD zs 2 0 / 2 % 4;
       sp = getD zs 2 0 % 2;
-      extension = take s (drop 3 zs)
+      extension = take s (drop 3 zs);
     }
 
 serviceRowsAt : ℕ → ℕ → List ℕ → List ServiceRow
@@ -116,7 +116,7 @@ ensembleRowAt e s ys =
       eat = getD ys 2 0 / 32 % 2;
       channel = getD ys 2 0 % 32;
       extension = take e (drop 3 ys);
-      services = serviceRowsAt s (servicesIn e ys) (inside e ys)
+      services = serviceRowsAt s (servicesIn e ys) (inside e ys);
     }
 
 ensembleRowsAt : ℕ → ℕ → ℕ → List ℕ → List EnsembleRow
@@ -140,15 +140,15 @@ ensembles-of e s (suc n) ys =
     let services = services-of s (servicesIn e ys) (inside e ys) in
     let rest = ensembles-of e s n (past e s ys) in
     λ i.
-        record {
-          id = getD ys 0 0;
-          slt = getD ys 2 0 / 128;
-          gat = getD ys 2 0 / 64 % 2;
-          eat = getD ys 2 0 / 32 % 2;
-          channel = getD ys 2 0 % 32;
-          services = services i
-        }
-        ∷ rest i
+    record {
+      id = getD ys 0 0;
+      slt = getD ys 2 0 / 128;
+      gat = getD ys 2 0 / 64 % 2;
+      eat = getD ys 2 0 / 32 % 2;
+      channel = getD ys 2 0 % 32;
+      services = services i;
+    }
+    ∷ rest i
 
 ensemble-held : (e s : ℕ) (ys : List ℕ) → Bytes ys → Held (ensembleFields (ensembleRowAt e s ys))
 unfolding ensembleFields ensembleRowAt
@@ -157,12 +157,32 @@ ensemble-held e s ys b =
     let b1 = getD-byte ys 1 b in
     let b2 = getD-byte ys 2 b in
     let n : ℕ = servicesIn e ys in
-    let rows = serviceRowsAt s n (inside e ys) in
-    (b0, (omega arith, (omega arith, (omega arith, (omega arith, (omega arith, (omega arith,
-        each-append InWidth (run (take e (drop 3 ys))) (field 8 (length rows) ∷ flatMap serviceFields rows)
-        (bytes-take e (drop 3 ys) (bytes-drop 3 ys b))
-        (omega (arith, length-services s n (inside e ys), getD-byte ys (3 + e) b),
-         services-held s n (inside e ys) (bytes-drop (ensembleBytes + e) ys b)))))))))
+    let rows = serviceRowsAt s n (inside e ys) in (
+      b0,
+      (
+        omega arith,
+        (
+          omega arith,
+          (
+            omega arith,
+            (
+              omega arith,
+              (
+                omega arith,
+                (
+                  omega arith,
+                  each-append InWidth (run (take e (drop 3 ys))) (field 8 (length rows) ∷ flatMap serviceFields rows)
+                      (bytes-take e (drop 3 ys) (bytes-drop 3 ys b)) (
+                        omega (arith, length-services s n (inside e ys), getD-byte ys (3 + e) b),
+                        services-held s n (inside e ys) (bytes-drop (ensembleBytes + e) ys b),
+                      ),
+                ),
+              ),
+            ),
+          ),
+        ),
+      ),
+    )
 
 ensemble-written : (e s : ℕ) (ys : List ℕ) → Bytes ys → EnsemblePasses e s ys → ensembleRow (ensembleRowAt e s ys) ++ past e s ys ≡ ys
 unfolding ensembleRow ensembleRowAt
@@ -179,11 +199,11 @@ ensemble-written e s (x ∷ y ∷ z ∷ zs) b h =
     let four : ensembleBytes + e ≡ suc (suc (suc (suc e))) = omega arith in
     let count : length rows ≡ getD zs e 0 = length-services s n (inside e ys) ∙ ap (λ (k : ℕ). getD ys k 0) three in
     let loop : flatMap serviceRow rows ++ past e s ys ≡ drop (suc e) zs =
-        services-written s n (inside e ys) (bytes-drop (ensembleBytes + e) ys b) (h .services) ∙ ap (λ (k : ℕ). drop k ys) four in
+    services-written s n (inside e ys) (bytes-drop (ensembleBytes + e) ys b) (h .services) ∙ ap (λ (k : ℕ). drop k ys) four in
     let rest : take e zs ++ (length rows ∷ flatMap serviceRow rows) ++ past e s ys ≡ zs =
-        append-assoc (take e zs) (length rows ∷ flatMap serviceRow rows) (past e s ys)
-        ∙ (λ i. take e zs ++ (count i ∷ loop i))
-        ∙ sym (split-at zs e 0 (omega (arith, h .fields))) in
+    append-assoc (take e zs) (length rows ∷ flatMap serviceRow rows) (past e s ys)
+    ∙ (λ i. take e zs ++ (count i ∷ loop i))
+    ∙ sym (split-at zs e 0 (omega (arith, h .fields))) in
     λ i. x ∷ second i ∷ third i ∷ rest i
 
 -- what the ensembles' rows are, where they pass
@@ -208,12 +228,15 @@ rows-of e s (suc n) ys b p =
           append-assoc row (flatMap ensembleRow (ensembleRowsAt e s n more)) (after e s n more)
           ∙ ap (λ (t : List ℕ). row ++ t) (r .written)
           ∙ ensemble-written e s ys b (h .0);
-      widened =
-          ((length-take-le e (drop 3 ys) (omega (arith, h .0 .fields, length-drop 3 ys)),
-            services-extended s (servicesIn e ys) (inside e ys) (h .0 .services)),
-           r .widened);
+      widened = (
+        (
+          length-take-le e (drop 3 ys) (omega (arith, h .0 .fields, length-drop 3 ys)),
+          services-extended s (servicesIn e ys) (inside e ys) (h .0 .services),
+        ),
+        r .widened,
+      );
       stuffing = r .stuffing;
-      versions = (h .0 .version, r .versions)
+      versions = (h .0 .version, r .versions);
     }
 
 -- ---- chunks
@@ -231,7 +254,7 @@ chunkAt xs =
       stream = streamIn xs;
       extension = take (hIn xs) (drop 4 xs);
       ensembles = ensembleRowsAt (eIn xs) (sIn xs) (countIn xs) (payload xs);
-      stuffing = after (eIn xs) (sIn xs) (countIn xs) (payload xs)
+      stuffing = after (eIn xs) (sIn xs) (countIn xs) (payload xs);
     }
 
 list-of : (xs : List ℕ) → listOf (chunkAt xs) ≡ listIn xs
@@ -255,12 +278,35 @@ module _ (xs : List ℕ) (b : Bytes xs) (h : HeaderPasses xs) (r : RowsOf (eIn x
       let b1 = getD-byte xs 1 b in
       let b2 = getD-byte xs 2 b in
       let b3 = getD-byte xs 3 b in
-      let stuffing : List ℕ = after (eIn xs) (sIn xs) (countIn xs) (payload xs) in
-      (omega arith, (omega arith, (omega arith, (omega arith, (omega arith, (omega arith, (omega arith, (omega arith,
-          each-append InWidth (run (take (hIn xs) (drop 4 xs))) (field 8 (length rows) ∷ flatMap ensembleFields rows ++ run stuffing)
-          (bytes-take (hIn xs) (drop 4 xs) (bytes-drop 4 xs b))
-          (omega (arith, counted, getD-byte xs (4 + hIn xs) b),
-           each-append InWidth (flatMap ensembleFields rows) (run stuffing) (r .held) (r .stuffing))))))))))
+      let stuffing : List ℕ = after (eIn xs) (sIn xs) (countIn xs) (payload xs) in (
+        omega arith,
+        (
+          omega arith,
+          (
+            omega arith,
+            (
+              omega arith,
+              (
+                omega arith,
+                (
+                  omega arith,
+                  (
+                    omega arith,
+                    (
+                      omega arith,
+                      each-append InWidth (run (take (hIn xs) (drop 4 xs))) (field 8 (length rows) ∷ flatMap ensembleFields rows ++ run stuffing)
+                          (bytes-take (hIn xs) (drop 4 xs) (bytes-drop 4 xs b)) (
+                            omega (arith, counted, getD-byte xs (4 + hIn xs) b),
+                            each-append InWidth (flatMap ensembleFields rows) (run stuffing) (r .held) (r .stuffing),
+                          ),
+                    ),
+                  ),
+                ),
+              ),
+            ),
+          ),
+        ),
+      )
 
 chunk-written : (xs : List ℕ) → Bytes xs → HeaderPasses xs → RowsOf (eIn xs) (sIn xs) (countIn xs) (payload xs) → chunkRow (chunkAt xs) ≡ xs
 unfolding chunkRow chunkAt
@@ -282,7 +328,7 @@ chunk-written (x ∷ y ∷ z ∷ u ∷ zs) b h r =
     let count : length rows ≡ getD zs n 0 = length-ensembles (eIn xs) (sIn xs) (countIn xs) (payload xs) ∙ ap (λ (k : ℕ). getD xs k 0) four in
     let loop : flatMap ensembleRow rows ++ stuffing ≡ drop (suc n) zs = r .written ∙ ap (λ (k : ℕ). drop k xs) five in
     let rest : take n zs ++ (length rows ∷ (flatMap ensembleRow rows ++ stuffing)) ≡ zs =
-        (λ i. take n zs ++ (count i ∷ loop i)) ∙ sym (split-at zs n 0 (omega (arith, h .fields))) in
+    (λ i. take n zs ++ (count i ∷ loop i)) ∙ sym (split-at zs n 0 (omega (arith, h .fields))) in
     λ i. first i ∷ second i ∷ third i ∷ fourth i ∷ rest i
 
 -- what the reader accepts, the layout carries
@@ -300,12 +346,12 @@ accepted-carried {xs} {k} {m} {l} b a =
             held = held;
             header = length-take-le (hIn xs) (drop 4 xs) (omega (arith, p .0 .fields, length-drop 4 xs));
             loops = r .widened;
-            room = omega (arith, ap length bytes, p .0 .longest)
+            room = omega (arith, ap length bytes, p .0 .longest);
           };
       bytes = bytes;
       major = p .0 .major;
       versions = r .versions;
       kind = a .kind;
       minor = a .minor;
-      list = list-of xs ∙ a .list
+      list = list-of xs ∙ a .list;
     }

@@ -22,12 +22,12 @@ pub record ServiceRow : Type 0 where
 
 unfoldable pub serviceFields : ServiceRow → List Field
 serviceFields v =
-    field 16 (v .id) -- MH_service_id
-    ∷ field 3 (v .reserved) -- reserved
-    ∷ field 2 (v .multi) -- multi_ensemble_service
-    ∷ field 2 (v .status) -- MH_service_status
-    ∷ field 1 (v .sp) -- SP_indicator
-    ∷ run (v .extension) -- MH_service_loop_extension_byte
+    field 16 (v .id)  -- MH_service_id
+    ∷ field 3 (v .reserved)  -- reserved
+    ∷ field 2 (v .multi)  -- multi_ensemble_service
+    ∷ field 2 (v .status)  -- MH_service_status
+    ∷ field 1 (v .sp)  -- SP_indicator
+    ∷ run (v .extension)  -- MH_service_loop_extension_byte
 
 -- ---- the outer loop of Table 6.6
 
@@ -44,15 +44,15 @@ pub record EnsembleRow : Type 0 where
 
 unfoldable pub ensembleFields : EnsembleRow → List Field
 ensembleFields e =
-    field 8 (e .id) -- ensemble_id
-    ∷ field 3 (e .reserved) -- reserved
-    ∷ field 5 (e .version) -- ensemble_protocol_version
-    ∷ field 1 (e .slt) -- SLT_ensemble_indicator
-    ∷ field 1 (e .gat) -- GAT_ensemble_indicator
-    ∷ field 1 (e .eat) -- EAT_ensemble_indicator
-    ∷ field 5 (e .channel) -- MH_service_signaling_channel_version
-    ∷ run (e .extension) -- ensemble_loop_header_extension_byte
-    ++ (field 8 (length (e .services)) -- num_MH_services
+    field 8 (e .id)  -- ensemble_id
+    ∷ field 3 (e .reserved)  -- reserved
+    ∷ field 5 (e .version)  -- ensemble_protocol_version
+    ∷ field 1 (e .slt)  -- SLT_ensemble_indicator
+    ∷ field 1 (e .gat)  -- GAT_ensemble_indicator
+    ∷ field 1 (e .eat)  -- EAT_ensemble_indicator
+    ∷ field 5 (e .channel)  -- MH_service_signaling_channel_version
+    ∷ run (e .extension)  -- ensemble_loop_header_extension_byte
+    ++ (field 8 (length (e .services))  -- num_MH_services
     ∷ flatMap serviceFields (e .services))
 
 -- ---- Table 6.5, then Table 6.6
@@ -73,18 +73,18 @@ pub record Chunk : Type 0 where
 
 unfoldable pub chunkFields : Chunk → List Field
 chunkFields c =
-    field 2 (c .major) -- FIC_chunk_major_protocol_version
-    ∷ field 3 (c .minor) -- FIC_chunk_minor_protocol_version
-    ∷ field 3 (c .h) -- FIC_chunk_header_extension_length
-    ∷ field 3 (c .e) -- ensemble_loop_header_extension_length
-    ∷ field 3 (c .s) -- MH_service_loop_extension_length
-    ∷ field 1 (c .reserved) -- reserved
-    ∷ field 1 (c .current) -- current_next_indicator
-    ∷ field 16 (c .stream) -- transport_stream_id
-    ∷ run (c .extension) -- header_extension_byte
-    ++ (field 8 (length (c .ensembles)) -- num_ensembles
+    field 2 (c .major)  -- FIC_chunk_major_protocol_version
+    ∷ field 3 (c .minor)  -- FIC_chunk_minor_protocol_version
+    ∷ field 3 (c .h)  -- FIC_chunk_header_extension_length
+    ∷ field 3 (c .e)  -- ensemble_loop_header_extension_length
+    ∷ field 3 (c .s)  -- MH_service_loop_extension_length
+    ∷ field 1 (c .reserved)  -- reserved
+    ∷ field 1 (c .current)  -- current_next_indicator
+    ∷ field 16 (c .stream)  -- transport_stream_id
+    ∷ run (c .extension)  -- header_extension_byte
+    ++ (field 8 (length (c .ensembles))  -- num_ensembles
     ∷ flatMap ensembleFields (c .ensembles)
-    ++ run (c .stuffing)) -- FIC_chunk_stuffing
+    ++ run (c .stuffing))  -- FIC_chunk_stuffing
 
 -- ---- the bytes of a chunk, and which records are chunks
 

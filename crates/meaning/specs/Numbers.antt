@@ -1,5 +1,8 @@
 -- Document 01's numbers, and what an answer says in them.
 use Prim.Native.Nat.{ℕ}
+use mathlib.Core.Bool.{Bool, false, _||_}
+use mathlib.Core.List.{List, [], _∷_}
+use lib.Dec.{eqb}
 use Rattle.meaning.specs.declared.Kind.{Kind}
 use Rattle.meaning.specs.declared.Refusal.{Refusal}
 use Rattle.meaning.specs.declared.Refusal.the-variants.{ShortBuffer, SegmentLength, SegmentType, ErrorBit, OtherMajor, NumberAboveLast, Clash, TooLong, EndsEarly, KindDiffers, OtherVersion, BadDesk, BadListing, TooMany, BadLog}
@@ -36,3 +39,8 @@ readMinor (Refused f) = 0
 abbrev pub readLength : Read → ℕ
 readLength (Listed k m n) = n
 readLength (Refused f) = 0
+
+-- whether n is one of some numbers
+abbrev pub among : List ℕ → ℕ → Bool
+among [] n = false
+among (m ∷ ms) n = eqb n m || among ms n

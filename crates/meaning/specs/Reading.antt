@@ -108,7 +108,7 @@ ensembleAt e s ys =
       gat = getD ys 2 0 / 64 % 2;
       eat = getD ys 2 0 / 32 % 2;
       channel = getD ys 2 0 % 32;
-      services = servicesAt s (servicesIn e ys) (inside e ys)
+      services = servicesAt s (servicesIn e ys) (inside e ys);
     }
 
 -- n ensembles at the start of ys

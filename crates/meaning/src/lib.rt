@@ -2,6 +2,7 @@
 
 ghost use mathlib.Core.Path.{_≡_};
 ghost use Rattle.meaning.specs.Lists.{kindOf};
+ghost use Rattle.meaning.specs.Numbers.{numberOf};
 
 // The frame that a list is for: the one it comes in, or the one after it.
 pub enum Kind {
@@ -36,29 +37,58 @@ pub enum Checked {
 
 // What the reader answers.
 pub enum Read {
-    Listed { kind: Kind, minor: u8, length: usize },
+    Listed {
+        kind: Kind,
+        minor: u8,
+        length: usize,
+    },
     Refused(Refusal),
 }
 
 // The longest chunk, and the shortest header, ensemble and service of one: their bytes with no extension.
 pub const LONGEST_CHUNK: usize = 560;
+
 pub const HEADER: usize = 5;
+
 pub const ENSEMBLE: usize = 4;
+
 pub const SERVICE: usize = 3;
 
 // The longest listing of a chunk, and the listing's three records.
 pub const LONGEST_LISTING: usize = 1292;
+
 pub const TS_RECORD: usize = 5;
+
 pub const EN_RECORD: usize = 6;
+
 pub const SV_RECORD: usize = 7;
 
 // The kind that a current_next_indicator says.
 pub fn kind_of(current: u8) -> Kind
     ensures { λ r. ⌜ r ≡ kindOf current ⌝ }
 {
-    if current == 1 {
-        Kind::This
-    } else {
-        Kind::Next
+    if current == 1 { Kind::This } else { Kind::Next }
+}
+
+// The number of a refusal.
+pub fn number_of(refusal: Refusal) -> u8
+    ensures { λ r. ⌜ r ≡ numberOf refusal ⌝ }
+{
+    match refusal {
+        Refusal::ShortBuffer => 1,
+        Refusal::SegmentLength => 2,
+        Refusal::SegmentType => 3,
+        Refusal::ErrorBit => 4,
+        Refusal::OtherMajor => 5,
+        Refusal::NumberAboveLast => 6,
+        Refusal::Clash => 7,
+        Refusal::TooLong => 8,
+        Refusal::EndsEarly => 9,
+        Refusal::KindDiffers => 10,
+        Refusal::OtherVersion => 11,
+        Refusal::BadDesk => 12,
+        Refusal::BadListing => 13,
+        Refusal::TooMany => 14,
+        Refusal::BadLog => 15,
     }
 }

@@ -114,8 +114,8 @@ bits-split zero k v = ap (λ (n : ℕ). bits n v) (zero-add k)
 bits-split (suc j) k v =
     ap (λ (n : ℕ). bits n v) (suc-add j k)
     ∙ ap₂ (λ (a : ℕ) (t : List ℕ). a % 2 ∷ t)
-        (ap (λ (n : ℕ). v / 2 ^ n) (add-comm j k) ∙ sym (shr-shr v k j))
-        (bits-split j k v)
+    (ap (λ (n : ℕ). v / 2 ^ n) (add-comm j k) ∙ sym (shr-shr v k j))
+    (bits-split j k v)
 
 -- ---- bytes that fields make
 
@@ -145,7 +145,7 @@ makes-append {gs} {hs} {xs} {ys} m n =
           ap bytesOf (append-assoc gs hs fs)
           ∙ m .made (each-left InWidth gs hs h) (hs ++ fs)
           ∙ ap (λ (t : List ℕ). xs ++ t) (n .made (each-right InWidth gs hs h) fs)
-          ∙ sym (append-assoc xs ys (bytesOf fs))
+          ∙ sym (append-assoc xs ys (bytesOf fs));
     }
 
 -- fields that fill a byte
@@ -156,7 +156,7 @@ makes-byte gs e =
       made = λ h fs.
           ap (λ (t : List ℕ). octets (length t / 8) t) (laid-append gs fs)
           ∙ octets-cons (laid gs) (laid fs) (length-laid gs ∙ e)
-          ∙ ap (λ (k : ℕ). k ∷ bytesOf fs) (number-laid gs h)
+          ∙ ap (λ (k : ℕ). k ∷ bytesOf fs) (number-laid gs h);
     }
 
 pub makes-octet : (x : ℕ) → Makes (field 8 x ∷ []) (x ∷ [])
@@ -170,10 +170,10 @@ makes-word v =
     record {
       made = λ h fs.
           ap (λ (s : List ℕ). octets (length s / 8) s)
-              (ap (λ (s : List ℕ). s ++ laid fs) (bits-split 8 8 v) ∙ append-assoc (bits 8 (v / 256)) (bits 8 v) (laid fs))
+          (ap (λ (s : List ℕ). s ++ laid fs) (bits-split 8 8 v) ∙ append-assoc (bits 8 (v / 256)) (bits 8 v) (laid fs))
           ∙ octets-cons (bits 8 (v / 256)) (bits 8 v ++ laid fs) (length-bits 8 (v / 256))
           ∙ ap₂ _∷_ (number-bits 8 (v / 256) ∙ omega (arith, h .0))
-              (octets-cons (bits 8 v) (laid fs) (length-bits 8 v) ∙ ap (λ (k : ℕ). k ∷ bytesOf fs) (number-bits 8 v))
+          (octets-cons (bits 8 v) (laid fs) (length-bits 8 v) ∙ ap (λ (k : ℕ). k ∷ bytesOf fs) (number-bits 8 v));
     }
 
 -- a run of bytes, and a run of rows

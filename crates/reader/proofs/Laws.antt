@@ -97,7 +97,7 @@ ensemble-there xs at e s =
     let third : getD xs (at + 2) 0 ≡ t = sym (getD-drop at xs 2 0) in
     let id = sym (getD-there xs at) in
     let flag : t / 32 ≡ 4 * (t / 128) + 2 * (t / 64 % 2) + t / 32 % 2 =
-        omega (arith, div-div-eq-div-mul t 32 2, div-div-eq-div-mul t 64 2) in
+    omega (arith, div-div-eq-div-mul t 32 2, div-div-eq-div-mul t 64 2) in
     let flags = ap (λ (b : ℕ). b / 32) third ∙ flag in
     let count = sym (length-servicesAt s (servicesIn e ys) (inside e ys) ∙ services-at xs at e s) in
     λ i. 0x45 ∷ 0x4E ∷ id i ∷ flags i ∷ third i % 32 ∷ count i ∷ []
@@ -133,7 +133,7 @@ unfolding ensembleListing
 ensemble-next xs l at to e s =
     let en : List ℕ = enRecord (ensembleAt e s (drop at xs)) in
     ap₂ (λ (n : ℕ) (t : List ℕ). sets (sets l to en) (to + enBytes) (flatMap svRecord (servicesAt s n t)))
-        (sym (services-at xs at e s)) (sym (inside-at xs at e s))
+    (sym (services-at xs at e s)) (sym (inside-at xs at e s))
     ∙ sym (sets-append en (flatMap svRecord (servicesAt s (servicesIn e (drop at xs)) (inside e (drop at xs)))) l to)
 
 -- ---- one ensemble after the other: n from the place at on, that passed, the first of them with k services
@@ -147,21 +147,23 @@ past-after xs at e s k is =
     drop-drop (servicesRoom e s (drop at xs)) (ensembleBytes + e) (drop at xs)
     ∙ drop-drop (ensembleBytes + e + servicesRoom e s (drop at xs)) at xs
     ∙ ap (λ (n : ℕ). drop n xs)
-        (sym (add-assoc at (ensembleBytes + e) (servicesRoom e s (drop at xs))) ∙ ap (λ (m : ℕ). after at e s m) (sym is))
+    (sym (add-assoc at (ensembleBytes + e) (servicesRoom e s (drop at xs))) ∙ ap (λ (m : ℕ). after at e s m) (sym is))
 
 pub ensembles-some : (xs : List ℕ) (at e s n k : ℕ) → at ≤ length xs → 0 < n → ensemblesChecks e s n (drop at xs) ≡ Fine → k ≡ servicesIn e (drop at xs) → (after at e s k ≤ length xs) × (ensemblesChecks e s (n - 1) (drop (after at e s k) xs) ≡ Fine)
 ensembles-some xs at e s zero k inl some fine is = absurd (omega arith)
 ensembles-some xs at e s (suc n) k inl some fine is =
     let h = ensemble-passes e s n (drop at xs) fine in
-    let one : suc n - 1 ≡ n = omega arith in
-    (omega
-     (arith,
-      h .0 .fields,
-      h .0 .services,
-      length-drop at xs,
-      length-drop (ensembleBytes + e) (drop at xs),
-      ap (λ (m : ℕ). m * (serviceBytes + s)) is),
-     rw one (ap (ensemblesChecks e s n) (sym (past-after xs at e s k is)) ∙ h .1))
+    let one : suc n - 1 ≡ n = omega arith in (
+      omega (
+        arith,
+        h .0 .fields,
+        h .0 .services,
+        length-drop at xs,
+        length-drop (ensembleBytes + e) (drop at xs),
+        ap (λ (m : ℕ). m * (serviceBytes + s)) is,
+      ),
+      rw one (ap (ensemblesChecks e s n) (sym (past-after xs at e s k is)) ∙ h .1),
+    )
 
 pub ensembles-next : (xs : List ℕ) (at e s n k : ℕ) → 0 < n → k ≡ servicesIn e (drop at xs) → flatMap ensembleListing (ensemblesAt e s n (drop at xs)) ≡ ensembleListing (ensembleAt e s (drop at xs)) ++ flatMap ensembleListing (ensemblesAt e s (n - 1) (drop (after at e s k) xs))
 unfolding flatMap ensemblesAt
@@ -223,5 +225,5 @@ read-stored xs before after k n room fine kind length-is stored =
     let says = says-listed xs before room fine in
     record {
       answers = (λ i. Listed (kind i) (minorIn xs) (length-is i)) ∙ says .answers;
-      leaves = stored ∙ sets-eq l before 0 fits ∙ ap (λ (m : ℕ). l ++ drop m before) (zero-add (length l)) ∙ says .leaves
+      leaves = stored ∙ sets-eq l before 0 fits ∙ ap (λ (m : ℕ). l ++ drop m before) (zero-add (length l)) ∙ says .leaves;
     }

@@ -1,7 +1,16 @@
 // The reader: a chunk in, the listing of its list out. All checks first, then all writing, so that a refusal writes nothing.
-use meaning::{
-    Checked, Kind, Read, Refusal, ENSEMBLE, EN_RECORD, HEADER, LONGEST_CHUNK, LONGEST_LISTING, SERVICE, SV_RECORD, TS_RECORD,
-};
+use meaning::Checked;
+use meaning::EN_RECORD;
+use meaning::ENSEMBLE;
+use meaning::HEADER;
+use meaning::Kind;
+use meaning::LONGEST_CHUNK;
+use meaning::LONGEST_LISTING;
+use meaning::Read;
+use meaning::Refusal;
+use meaning::SERVICE;
+use meaning::SV_RECORD;
+use meaning::TS_RECORD;
 ghost use mathlib.Core.Path.{_≡_};
 ghost use mathlib.Core.List.{flatMap};
 ghost use Prim.Native.Nat.{_+_, _*_, _≤_, _<_};
@@ -115,7 +124,15 @@ fn write_ensemble(chunk: &[u8], at: usize, e: usize, s: usize, out: &mut [u8], t
 }
 
 // The records of count ensembles from a place of the chunk on, that the checks passed; the place after them in the output.
-fn write_ensembles(chunk: &[u8], from: usize, e: usize, s: usize, count: usize, out: &mut [u8], start: usize) -> usize
+fn write_ensembles(
+    chunk: &[u8],
+    from: usize,
+    e: usize,
+    s: usize,
+    count: usize,
+    out: &mut [u8],
+    start: usize,
+) -> usize
     requires { ⌜ (from ≤ length (now chunk)) × (length (now chunk) ≤ longestChunk) × (e < 8) × (s < 8) ⌝ }
     requires { ⌜ ensemblesChecks e s count (drop from (now chunk)) ≡ Checked.Fine ⌝ }
     requires { ⌜ start + length (flatMap ensembleListing (ensemblesAt e s count (drop from (now chunk)))) ≤ length (now out) ⌝ }

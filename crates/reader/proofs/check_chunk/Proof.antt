@@ -80,8 +80,8 @@ returns-5 : tie.Need-returns-5
 returns-5 c =
     c .check-ensembles .ensures
     ∙ sym
-      (checks-header (now (c .before .before .before .before .before .before .before .before .before .args .chunk))
-      (record { longest = c .before .before .before .before .before .before .before .if1 .left; major = c .before .before .before .before .if3 .left; fields = c .before .before .before .if4 .left }))
+    (checks-header (now (c .before .before .before .before .before .before .before .before .before .args .chunk))
+    (record { longest = c .before .before .before .before .before .before .before .if1 .left; major = c .before .before .before .before .if3 .left; fields = c .before .before .before .if4 .left }))
 
 pub check-chunk-spec : {M : Type 1} → statement M
 check-chunk-spec =

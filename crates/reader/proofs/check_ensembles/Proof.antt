@@ -122,15 +122,16 @@ loop-less c = omega arith
 loop-again : tie.Need-loop-again Inv-loop μ-loop
 loop-again c =
     let a = c .before .before .before .before .before .before .before .args in
-    let l = c .before .before .before .before .before .before .loop in
-    (omega arith,
-     sym
-     (next-there (now (a .chunk)) (l .at) (a .e) (a .s) (l .left)
-     (c .before .before .before .before .before .loop-test .taken)
-     (c .before .before .before .before .if1 .left)
-     (c .before .before .if2 .left)
-     (c .if3 .left))
-     ∙ l .inv .1)
+    let l = c .before .before .before .before .before .before .loop in (
+      omega arith,
+      sym
+          (next-there (now (a .chunk)) (l .at) (a .e) (a .s) (l .left)
+          (c .before .before .before .before .before .loop-test .taken)
+          (c .before .before .before .before .if1 .left)
+          (c .before .before .if2 .left)
+          (c .if3 .left))
+          ∙ l .inv .1,
+    )
 
 -- src/lib.rt:15:1
 returns-4 : tie.Need-returns-4 Inv-loop μ-loop

@@ -104,9 +104,10 @@ add-write-services-3 c = search needs
 -- src/lib.rt:113:5
 write-services-requires : tie.Need-write-services-requires
 write-services-requires c κs =
-    let a = c .before .before .before .before .before .before .args in
-    (omega (arith, c .before .before .before .before .before .before .pre .0, room-at (now (a .chunk)) (a .at) (a .e) (a .s)),
-     simp length-set (omega (arith, c .before .before .before .before .before .before .pre .1, services-at (now (a .chunk)) (a .at) (a .e) (a .s))))
+    let a = c .before .before .before .before .before .before .args in (
+      omega (arith, c .before .before .before .before .before .before .pre .0, room-at (now (a .chunk)) (a .at) (a .e) (a .s)),
+      simp length-set (omega (arith, c .before .before .before .before .before .before .pre .1, services-at (now (a .chunk)) (a .at) (a .e) (a .s))),
+    )
 
 -- src/lib.rt:98:1
 same-length : tie.Need-same-length
@@ -118,13 +119,14 @@ returns c =
     let a = c .before .before .before .before .before .before .before .before .before .args in
     let xs = now (a .chunk) in
     let third = getD xs (a .at + 2) 0 in
-    let count = getD xs (a .at + (3 + a .e)) 0 in
-    (sym (services-at xs (a .at) (a .e) (a .s)),
-     c .before .before .write-services .ensures
-     ∙ ap (λ l. sets l (a .to + enBytes) (flatMap svRecord (servicesAt (a .s) count (drop (a .at + (ensembleBytes + a .e)) xs))))
-         (stored 0x45 (0x4E ∷ getD xs (a .at) 0 ∷ third / 32 ∷ third % 32 ∷ count ∷ []) (now (a .out)) (a .to)
-         ∙ ap (sets (now (a .out)) (a .to)) (ensemble-there xs (a .at) (a .e) (a .s)))
-     ∙ ensemble-next xs (now (a .out)) (a .at) (a .to) (a .e) (a .s))
+    let count = getD xs (a .at + (3 + a .e)) 0 in (
+      sym (services-at xs (a .at) (a .e) (a .s)),
+      c .before .before .write-services .ensures
+          ∙ ap (λ l. sets l (a .to + enBytes) (flatMap svRecord (servicesAt (a .s) count (drop (a .at + (ensembleBytes + a .e)) xs))))
+          (stored 0x45 (0x4E ∷ getD xs (a .at) 0 ∷ third / 32 ∷ third % 32 ∷ count ∷ []) (now (a .out)) (a .to)
+          ∙ ap (sets (now (a .out)) (a .to)) (ensemble-there xs (a .at) (a .e) (a .s)))
+          ∙ ensemble-next xs (now (a .out)) (a .at) (a .to) (a .e) (a .s),
+    )
 
 pub write-ensemble-spec : {M : Type 1} → statement M
 write-ensemble-spec =

@@ -39,9 +39,10 @@ write-ensemble-requires c κs =
     let a = c .before .before .before .before .before .args in
     let l = c .before .before .loop in
     let xs = now (a .chunk) in
-    let some = c .before .loop-test .taken in
-    (ensembles-some xs (l .at) (a .e) (a .s) (l .left) _ (l .inv .0) some (l .inv .1) refl .0,
-     omega (arith, c .before .before .before .before .before .pre .1 .1, l .inv .2, l .inv .3, length-ensembles xs (l .at) (a .e) (a .s) (l .left) _ some refl))
+    let some = c .before .loop-test .taken in (
+      ensembles-some xs (l .at) (a .e) (a .s) (l .left) _ (l .inv .0) some (l .inv .1) refl .0,
+      omega (arith, c .before .before .before .before .before .pre .1 .1, l .inv .2, l .inv .3, length-ensembles xs (l .at) (a .e) (a .s) (l .left) _ some refl),
+    )
 
 -- the place after the ensemble, and that the checks passed what is left
 there : (c : tie.After-slice-known2 Inv-loop μ-loop) →
@@ -87,11 +88,12 @@ add-to-2 : tie.Need-add-to-2 Inv-loop μ-loop
 add-to-2 c =
     let a = c .before .before .before .before .before .before .before .before .args in
     let l = c .before .before .before .before .before .loop in
-    omega
-    (arith,
-     c .before .before .before .before .before .before .before .before .pre .1 .1,
-     l .inv .3,
-     length-ensembles (now (a .chunk)) (l .at) (a .e) (a .s) (l .left) _ (c .before .before .before .before .loop-test .taken) (c .before .before .write-ensemble .ensures .0))
+    omega (
+      arith,
+      c .before .before .before .before .before .before .before .before .pre .1 .1,
+      l .inv .3,
+      length-ensembles (now (a .chunk)) (l .at) (a .e) (a .s) (l .left) _ (c .before .before .before .before .loop-test .taken) (c .before .before .write-ensemble .ensures .0),
+    )
 
 -- src/lib.rt:132:9
 sub-left : tie.Need-sub-left Inv-loop μ-loop
@@ -108,12 +110,13 @@ loop-again c =
     let l = c .before .before .before .before .before .loop in
     let xs = now (a .chunk) in
     let some = c .before .before .before .before .loop-test .taken in
-    let is = c .before .before .write-ensemble .ensures .0 in
-    (there c .0,
-     there c .1,
-     omega arith,
-     omega (arith, l .inv .3, length-ensembles xs (l .at) (a .e) (a .s) (l .left) _ some is),
-     ensembles-stored xs (l .out) _ (l .at) (l .to) (a .e) (a .s) (l .left) _ some is (c .before .before .write-ensemble .ensures .1) ∙ l .inv .4)
+    let is = c .before .before .write-ensemble .ensures .0 in (
+      there c .0,
+      there c .1,
+      omega arith,
+      omega (arith, l .inv .3, length-ensembles xs (l .at) (a .e) (a .s) (l .left) _ some is),
+      ensembles-stored xs (l .out) _ (l .at) (l .to) (a .e) (a .s) (l .left) _ some is (c .before .before .write-ensemble .ensures .1) ∙ l .inv .4,
+    )
 
 -- src/lib.rt:118:1
 same-length : tie.Need-same-length Inv-loop μ-loop

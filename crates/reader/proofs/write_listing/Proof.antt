@@ -96,9 +96,10 @@ cast-write-ensembles c = omega (arith, c .before .before .shared-slice-known6 .g
 write-ensembles-requires : tie.Need-write-ensembles-requires
 write-ensembles-requires c κs =
     let xs = now (c .before .before .before .before .before .before .before .before .before .before .before .args .chunk) in
-    let h = header-passes xs (c .before .before .before .before .before .before .before .before .before .before .before .pre .0) in
-    ((h .0 .fields, h .0 .longest, omega (arith, c .before .before .before .before .before .before .before .shared-slice-known3 .given 1), omega (arith, c .before .before .before .before .before .before .before .shared-slice-known3 .given 1)),
-     (h .1, simp length-set (omega (arith, c .before .before .before .before .before .before .before .before .before .before .before .pre .1, length-listed xs, listing-fits xs (c .before .before .before .before .before .before .before .before .before .before .before .pre .0)))))
+    let h = header-passes xs (c .before .before .before .before .before .before .before .before .before .before .before .pre .0) in (
+      (h .0 .fields, h .0 .longest, omega (arith, c .before .before .before .before .before .before .before .shared-slice-known3 .given 1), omega (arith, c .before .before .before .before .before .before .before .shared-slice-known3 .given 1)),
+      (h .1, simp length-set (omega (arith, c .before .before .before .before .before .before .before .before .before .before .before .pre .1, length-listed xs, listing-fits xs (c .before .before .before .before .before .before .before .before .before .before .before .pre .0)))),
+    )
 
 -- src/lib.rt:138:1
 same-length : tie.Need-same-length
@@ -107,9 +108,10 @@ same-length c = c .before .before .write-ensembles .kept .1 .1 .1 .1 .1 .0 ∙ s
 -- src/lib.rt:138:1
 returns : tie.Need-returns
 returns c =
-    let xs = now (c .before .before .before .before .before .before .before .before .before .before .before .before .before .before .args .chunk) in
-    (c .before .before .write-ensembles .ensures .0 ∙ sym (length-listed xs),
-     listing-stored xs (now (c .before .before .before .before .before .before .before .before .before .before .before .before .before .before .args .out)) _ _ _ _ (c .before .before .before .before .before .before .before .word-of .ensures) (c .before .before .before .before .before .high-of .ensures) (c .before .before .before .before .low-of .ensures) (c .before .before .write-ensembles .ensures .1))
+    let xs = now (c .before .before .before .before .before .before .before .before .before .before .before .before .before .before .args .chunk) in (
+      c .before .before .write-ensembles .ensures .0 ∙ sym (length-listed xs),
+      listing-stored xs (now (c .before .before .before .before .before .before .before .before .before .before .before .before .before .before .args .out)) _ _ _ _ (c .before .before .before .before .before .before .before .word-of .ensures) (c .before .before .before .before .before .high-of .ensures) (c .before .before .before .before .low-of .ensures) (c .before .before .write-ensembles .ensures .1),
+    )
 
 pub write-listing-spec : {M : Type 1} → statement M
 write-listing-spec =

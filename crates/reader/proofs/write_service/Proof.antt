@@ -111,10 +111,10 @@ returns c =
     let third = getD (now (a .chunk)) (a .at + 2) 0 in
     stored 0x53 (0x56 ∷ c .before .high-of .result ∷ c .low-of .result ∷ third / 8 % 4 ∷ third / 2 % 4 ∷ third % 2 ∷ []) (now (a .out)) (a .to)
     ∙ ap (sets (now (a .out)) (a .to))
-      (service-there (now (a .chunk)) (a .at) (c .before .before .before .word-of .result) (c .before .high-of .result) (c .low-of .result)
-      (c .before .before .before .word-of .ensures)
-      (c .before .high-of .ensures)
-      (c .low-of .ensures))
+    (service-there (now (a .chunk)) (a .at) (c .before .before .before .word-of .result) (c .before .high-of .result) (c .low-of .result)
+    (c .before .before .before .word-of .ensures)
+    (c .before .high-of .ensures)
+    (c .low-of .ensures))
 
 pub write-service-spec : {M : Type 1} → statement M
 write-service-spec =

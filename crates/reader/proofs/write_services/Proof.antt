@@ -59,11 +59,12 @@ loop-again : tie.Need-loop-again Inv-loop μ-loop
 loop-again c =
     let a = c .before .before .before .before .before .before .before .before .args in
     let l = c .before .before .before .before .before .loop in
-    let some = c .before .before .before .before .loop-test .taken in
-    (row-rest (l .at) (serviceBytes + a .s) (length (now (a .chunk))) (l .left) some (l .inv .0),
-     omega arith,
-     omega arith,
-     services-next (now (a .chunk)) (l .out) _ (l .at) (l .to) (a .s) (l .left) some (c .before .before .write-service .ensures) ∙ l .inv .3)
+    let some = c .before .before .before .before .loop-test .taken in (
+      row-rest (l .at) (serviceBytes + a .s) (length (now (a .chunk))) (l .left) some (l .inv .0),
+      omega arith,
+      omega arith,
+      services-next (now (a .chunk)) (l .out) _ (l .at) (l .to) (a .s) (l .left) some (c .before .before .write-service .ensures) ∙ l .inv .3,
+    )
 
 -- src/lib.rt:82:1
 same-length : tie.Need-same-length Inv-loop μ-loop

@@ -1,0 +1,271 @@
+// Runs the reader on document 01's samples and on the longest and the narrowest cases, and prints a line for each: its name, the answer's
+// number and, where the chunk is accepted, its kind, minor edition and length, its listing, and whether the buffer past it is as it was.
+mod made;
+
+use libc::STDOUT_FILENO;
+use made::Made;
+use meaning::Kind;
+use meaning::LONGEST_LISTING;
+use meaning::Read;
+
+const ROOM: usize = 1400;
+
+const BEFORE: u8 = 0xA5;
+
+fn say(text: &[u8]) {
+    io::write_all(STDOUT_FILENO, text);
+}
+
+fn say_number(n: u64) {
+    say(b" ");
+    io::print_decimal(STDOUT_FILENO, n);
+}
+
+fn wide(byte: u8) -> u64 {
+    byte as u64
+}
+
+// The first bytes of the buffer, in hex.
+fn say_hex(buffer: &[u8], length: usize) {
+    let mut i = 0;
+    while i < length {
+        if i < buffer.len() {
+            io::print_hex(STDOUT_FILENO, wide(buffer[i]), 2);
+        }
+        i += 1;
+    }
+}
+
+// Whether the bytes from a place on are as they were before.
+fn kept(buffer: &[u8], from: usize) -> bool {
+    let mut i = from;
+    while i < buffer.len() {
+        if buffer[i] != BEFORE {
+            return false;
+        }
+        i += 1;
+    }
+    true
+}
+
+fn say_answer(answer: Read, buffer: &[u8]) {
+    let mut length = 0;
+    match answer {
+        Read::Listed {
+            kind,
+            minor,
+            length: n,
+        } => {
+            say_number(0);
+            match kind {
+                Kind::This => say(b" this"),
+                Kind::Next => say(b" next"),
+            }
+            say_number(minor as u64);
+            say_number(n as u64);
+            say(b" ");
+            say_hex(buffer, n);
+            length = n;
+        }
+        Read::Refused(refusal) => say_number(meaning::number_of(refusal) as u64),
+    }
+    if kept(buffer, length) {
+        say(b" kept\n");
+    } else {
+        say(b" CHANGED\n");
+    }
+}
+
+// One chunk, with the first bytes of a buffer.
+fn run_in(name: &[u8], chunk: &[u8], buffer: &mut [u8], room: usize) {
+    say(name);
+    if room <= buffer.len() {
+        let answer = reader::read(chunk, &mut buffer[..room]);
+        say_answer(answer, buffer);
+    }
+}
+
+fn run(name: &[u8], chunk: &[u8], room: usize) {
+    let mut space = [BEFORE; ROOM];
+    run_in(name, chunk, &mut space, room);
+}
+
+fn run_part(name: &[u8], bytes: &[u8], len: usize, room: usize) {
+    if len <= bytes.len() {
+        run(name, &bytes[..len], room);
+    }
+}
+
+fn run_made(name: &[u8], made: Made, room: usize) {
+    let bytes = made.bytes;
+    run_part(name, &bytes, made.len, room);
+}
+
+// Document 01's samples of chunks.
+fn samples() {
+    run(
+        b"first",
+        b"\x00\x03\x01\x23\x01\x05\xE0\x83\x01\x0A\x01\xE6",
+        LONGEST_LISTING,
+    );
+    run(
+        b"minor 1, h 1, e 2",
+        b"\x09\x43\x01\x23\xAA\x01\x05\xE0\x83\xBB\xCC\x01\x0A\x01\xE6",
+        LONGEST_LISTING,
+    );
+    run(b"no ensemble", b"\x00\x03\x01\x23\x00", LONGEST_LISTING);
+    run(b"no ensemble, cut", b"\x00\x03\x01\x23", LONGEST_LISTING);
+    run(b"empty", b"", LONGEST_LISTING);
+    run(b"one byte of major 1", b"\x40", LONGEST_LISTING);
+    run(b"two bytes of major 1", b"\x40\x03", LONGEST_LISTING);
+    run(
+        b"an ensemble short",
+        b"\x00\x03\x01\x23\x01",
+        LONGEST_LISTING,
+    );
+    run(
+        b"version 1",
+        b"\x00\x03\x01\x23\x01\x05\xE1\x83\x01\x0A\x01\xE6",
+        LONGEST_LISTING,
+    );
+    run(
+        b"first, cut",
+        b"\x00\x03\x01\x23\x01\x05\xE0\x83\x01\x0A\x01",
+        LONGEST_LISTING,
+    );
+}
+
+// What is disregarded, and the order of the checks.
+fn order() {
+    run(
+        b"kind next",
+        b"\x00\x02\x01\x23\x01\x05\xE0\x83\x01\x0A\x01\xE6",
+        LONGEST_LISTING,
+    );
+    run(
+        b"reserved bits zeros",
+        b"\x00\x01\x01\x23\x01\x05\x00\x83\x01\x0A\x01\x06",
+        LONGEST_LISTING,
+    );
+    run(
+        b"all flags, channel 31, multi 3, SP",
+        b"\x00\x03\xFF\xFE\x01\xFF\xE0\xFF\x01\x12\x34\xFF",
+        LONGEST_LISTING,
+    );
+    run(b"major 3, header cut", b"\xC7\x03\x01", LONGEST_LISTING);
+    run(
+        b"header cut in its extension",
+        b"\x07\x03\x01\x23\x00\x00\x00\x00\x00\x00\x00",
+        LONGEST_LISTING,
+    );
+    run(
+        b"header and its extension",
+        b"\x07\x03\x01\x23\x00\x00\x00\x00\x00\x00\x00\x00",
+        LONGEST_LISTING,
+    );
+    run(
+        b"version 1, no room for its services",
+        b"\x00\x03\x01\x23\x01\x05\xE1\x83\xFF",
+        LONGEST_LISTING,
+    );
+    run(
+        b"version 1, fields cut",
+        b"\x00\x03\x01\x23\x01\x05\xE1\x83",
+        LONGEST_LISTING,
+    );
+    run(
+        b"second ensemble of version 1",
+        b"\x00\x03\x01\x23\x02\x05\xE0\x83\x00\x06\xFF\x00\x00",
+        LONGEST_LISTING,
+    );
+    run(
+        b"second ensemble cut",
+        b"\x00\x03\x01\x23\x02\x05\xE0\x83\x00\x06\xE0\x00",
+        LONGEST_LISTING,
+    );
+    run(
+        b"255 ensembles",
+        b"\x00\x03\x01\x23\xFF\x05\xE0\x83\x00\x06\xE0\x00\x00",
+        LONGEST_LISTING,
+    );
+}
+
+// The longest chunks, and those a byte longer or shorter.
+fn longest() {
+    let one = Made::new()
+        .header(0, 0, 0, 1)
+        .ensemble(5, 0, 183)
+        .services(0, 183);
+    run_made(b"183 services", one, LONGEST_LISTING);
+    run_made(b"183 services, cut", one.cut(), LONGEST_LISTING);
+    let more = Made::new()
+        .header(0, 0, 0, 1)
+        .ensemble(5, 0, 184)
+        .services(0, 184);
+    run_made(b"184 services", more, LONGEST_LISTING);
+    run_made(b"184 services in 560 bytes", more.cut(), LONGEST_LISTING);
+    let two = Made::new()
+        .header(0, 0, 0, 3)
+        .ensemble(1, 0, 61)
+        .services(0, 61)
+        .ensemble(2, 0, 0);
+    let three = two.ensemble(3, 0, 120).services(0, 120);
+    run_made(b"three ensembles, 181 services", three, LONGEST_LISTING);
+    run_made(
+        b"three ensembles, 561 bytes",
+        three.with(0xFF),
+        LONGEST_LISTING,
+    );
+}
+
+// Every extension 7 bytes long: one ensemble with a service, and 8 with 46, which fill the chunk.
+fn extended() {
+    let small = Made::new()
+        .header(7, 7, 7, 1)
+        .ensemble(5, 7, 1)
+        .services(7, 1);
+    run_made(b"extensions 7", small, LONGEST_LISTING);
+    run_made(b"extensions 7, cut", small.cut(), LONGEST_LISTING);
+    let first = Made::new()
+        .header(7, 7, 7, 8)
+        .ensemble(0, 7, 4)
+        .services(7, 4);
+    let full = first.ensembles(1, 8, 7, 7, 6);
+    run_made(b"extensions 7, 560 bytes", full, LONGEST_LISTING);
+    run_made(b"extensions 7, 559 bytes", full.cut(), LONGEST_LISTING);
+}
+
+fn stuffed_with(n: usize) {
+    let first = Made::of(b"\x00\x03\x01\x23\x01\x05\xE0\x83\x01\x0A\x01\xE6");
+    run_made(b"stuffing", first.fill(n, (n % 256) as u8), LONGEST_LISTING);
+}
+
+// The first sample with stuffing of every length there is room for, and of one byte more.
+fn stuffed() {
+    for n in 0..550 {
+        stuffed_with(n);
+    }
+}
+
+// Buffers that are long enough, and that are not.
+fn buffers() {
+    let first = Made::of(b"\x00\x03\x01\x23\x01\x05\xE0\x83\x01\x0A\x01\xE6");
+    run_made(b"buffer of 0", first, 0);
+    run_made(b"buffer of 1291", first, LONGEST_LISTING - 1);
+    run_made(b"buffer of 1292", first, LONGEST_LISTING);
+    run_made(b"buffer of 1400", first, ROOM);
+    run_made(
+        b"buffer of 1291, chunk of 561",
+        first.fill(549, 0),
+        LONGEST_LISTING - 1,
+    );
+}
+
+fn main() {
+    samples();
+    order();
+    longest();
+    extended();
+    stuffed();
+    buffers();
+}
