@@ -1,7 +1,7 @@
 -- Every chunk of the layout is accepted, with exactly its list. Assumes nothing.
 use mathlib.Core.Path.{_≡_, refl, sym, ap, ap₂, _∙_, subst}
 use mathlib.Core.List.{List, [], _∷_, _++_, map, flatMap, append-assoc}
-use Prim.Native.Nat.{ℕ, zero, suc, _+_, _*_, _/_, _%_, _≤_, _<_}
+use Prim.Native.Nat.{ℕ, suc, _+_, _*_, _/_, _%_}
 use native.Mathlib.Omega.{arith}
 use lib.ListN.{length, getD, drop, length-append}
 use lib.Seq.{drop-at, getD-at}
@@ -13,8 +13,8 @@ use Rattle.meaning.specs.declared.Kind.{Kind}
 use Rattle.meaning.specs.declared.Checked.the-variants.{Fine}
 use Rattle.meaning.specs.Sizes.{headerBytes, ensembleBytes, serviceBytes}
 use Rattle.meaning.specs.Lists.{FicList, kindOf}
-use Rattle.meaning.specs.Layout.{ServiceRow, serviceFields, EnsembleRow, ensembleFields, Chunk, chunkFields, wire, Sent, serviceOf, ensembleOf, listOf, Carries}
-use Rattle.meaning.specs.Reading.{serviceAt, servicesAt, ensembleAt, ensemblesAt, servicesIn, servicesRoom, inside, past, ensemblesChecks, checks, majorIn, minorIn, hIn, eIn, sIn, kindIn, streamIn, countIn, payload, listIn, Accepts}
+use Rattle.meaning.specs.Layout.{ServiceRow, serviceFields, EnsembleRow, ensembleFields, Chunk, chunkFields, Allowed, serviceOf, ensembleOf, listOf, Carries}
+use Rattle.meaning.specs.Reading.{serviceAt, servicesAt, ensembleAt, ensemblesAt, servicesIn, servicesRoom, inside, past, ensemblesChecks, checks, hIn, eIn, sIn, countIn, payload, listIn, Accepts}
 use Rattle.meaning.proofs.Checks.{EnsemblePasses, ensemble-fine, HeaderPasses, header-fine}
 use Rattle.meaning.proofs.Rows.{serviceRow, serviceThird, ensembleRow, ensembleSecond, ensembleThird, chunkFirst, chunkSecond, chunkRow, wire-row}
 
@@ -137,7 +137,7 @@ module _ (e s : ℕ) where
 -- ---- chunks
 
 -- the row of a chunk that the layout allows
-module _ (c : Chunk) (t : Sent c) where
+module _ (c : Chunk) (t : Allowed c) where
   abbrev xs : List ℕ
   xs = chunkRow c
 
@@ -217,6 +217,6 @@ module _ (c : Chunk) (t : Sent c) where
 pub carried-accepted : {xs : List ℕ} {k : Kind} {m : ℕ} {l : FicList} → Carries xs k m l → Accepts xs k m l
 carried-accepted {xs} {k} {m} {l} h =
     let c = h .chunk in
-    let a = chunk-accepts c (h .sent) (h .major) (h .versions) in
-    subst (λ (t : List ℕ). Accepts t k m l) (sym (wire-row c (h .sent .held)) ∙ h .bytes)
+    let a = chunk-accepts c (h .allowed) (h .major) (h .versions) in
+    subst (λ (t : List ℕ). Accepts t k m l) (sym (wire-row c (h .allowed .held)) ∙ h .bytes)
     (record { passes = a .passes; kind = a .kind ∙ h .kind; minor = a .minor ∙ h .minor; list = a .list ∙ h .list })

@@ -1,7 +1,7 @@
 -- Document 01, "Sample bytes", those marked P: one table, and one statement that the definitions give what it says. Then the longest listing,
 -- which a chunk of 183 services reaches. Assumes nothing.
 use mathlib.Core.Path.{_≡_, refl}
-use mathlib.Core.List.{List, [], _∷_, _++_, map, flatMap}
+use mathlib.Core.List.{List, [], _∷_, map, flatMap}
 use Prim.Native.Nat.{ℕ}
 use lib.ListN.{length, take, replicate}
 use Rattle.meaning.specs.declared.Kind.{Kind}
@@ -11,10 +11,13 @@ use Rattle.meaning.specs.declared.Read.{Read}
 use Rattle.meaning.specs.declared.Read.the-variants.{Listed, Refused}
 use Rattle.meaning.specs.Sizes.{longestListing}
 use Rattle.meaning.specs.Numbers.{readNumber, readMinor, readLength}
+use native.Mathlib.Omega.{arith}
 use Rattle.octets.specs.Bits.{bits, laid, number, octets, bytesOf}
-use Rattle.meaning.specs.Layout.{Chunk, serviceFields, ensembleFields, chunkFields, wire}
+use Rattle.meaning.specs.Layout.{Chunk, serviceFields, ensembleFields, chunkFields, wire, Carries}
+use Rattle.meaning.specs.Lists.{FicList}
 use Rattle.meaning.specs.Listing.{ensembleListing, listing}
 use Rattle.meaning.specs.Reading.{checks, ensemblesChecks, servicesAt, ensemblesAt, listIn, readAnswer, readBuffer}
+use Rattle.meaning.proofs.Sound.{accepted-carried}
 
 -- a sample: the chunk, the number that is answered, the kind where there is one, the minor edition, and the listing
 record Sample : Type 0 where
@@ -50,7 +53,7 @@ refused n xs = record { chunk = xs; number = n; kind = []; minor = 0; listed = [
 firstListing : List ℕ
 firstListing = 0x54 ∷ 0x53 ∷ 0x01 ∷ 0x23 ∷ 0x01 ∷ 0x45 ∷ 0x4E ∷ 0x05 ∷ 0x04 ∷ 0x03 ∷ 0x01 ∷ 0x53 ∷ 0x56 ∷ 0x0A ∷ 0x01 ∷ 0x00 ∷ 0x03 ∷ 0x00 ∷ []
 
-firstChunk : List ℕ
+pub firstChunk : List ℕ
 firstChunk = 0x00 ∷ 0x03 ∷ 0x01 ∷ 0x23 ∷ 0x01 ∷ 0x05 ∷ 0xE0 ∷ 0x83 ∷ 0x01 ∷ 0x0A ∷ 0x01 ∷ 0xE6 ∷ []
 
 secondChunk : List ℕ
@@ -106,6 +109,19 @@ sentAs minor h e =
 layouts-hold : (wire (sentAs 0 [] []) ≡ firstChunk) × (wire (sentAs 1 (0xAA ∷ []) (0xBB ∷ 0xCC ∷ [])) ≡ secondChunk)
 unfolding sentAs firstChunk secondChunk wire chunkFields ensembleFields serviceFields bytesOf octets number laid bits flatMap
 layouts-hold = (refl, refl)
+
+-- the first of them carries its list
+pub firstList : FicList
+firstList =
+    record {
+      stream = 0x0123;
+      ensembles =
+          record { id = 5; slt = 1; gat = 0; eat = 0; channel = 3; services = record { id = 0x0A01; multi = 0; status = 3; sp = 0 } ∷ [] } ∷ [];
+    }
+
+pub first-carried : Carries firstChunk This 0 firstList
+unfolding firstChunk firstList checks ensemblesChecks servicesAt ensemblesAt listIn
+first-carried = accepted-carried (omega arith) (record { passes = refl; kind = refl; minor = refl; list = refl })
 
 -- one ensemble with 183 services, 558 bytes
 longestOne : List ℕ

@@ -1,22 +1,22 @@
 -- Every chunk that is accepted is one of the layout, with the list that is read: the rows are read off the bytes, and laid out they are the
 -- bytes again. Assumes nothing.
-use mathlib.Core.Path.{_≡_, refl, sym, ap, ap₂, _∙_, subst}
+use mathlib.Core.Path.{_≡_, refl, sym, ap, _∙_}
 use mathlib.Core.List.{List, [], _∷_, _++_, map, flatMap, append-assoc}
-use Prim.Native.Nat.{ℕ, zero, suc, _+_, _*_, _/_, _%_, _≤_, _<_, _-_}
-use native.Mathlib.Nat.{suc-mul, div-div-eq-div-mul}
+use Prim.Native.Nat.{ℕ, zero, suc, _+_, _*_, _/_, _%_, _≤_, _<_}
+use native.Mathlib.Nat.{div-div-eq-div-mul}
 use native.Mathlib.Omega.{arith}
-use lib.ListN.{length, getD, take, drop, length-append, length-drop, take-append-drop}
+use lib.ListN.{length, getD, take, drop, length-drop, take-append-drop}
 use lib.Seq.{drop-drop, split-at, length-take-le}
-use Rattle.octets.specs.Bits.{Field, field, InWidth, Held, run, Bytes}
+use Rattle.octets.specs.Bits.{field, InWidth, Held, run, Bytes}
 use Rattle.octets.specs.Each.{Each}
-use Rattle.octets.specs.Word.{word, wordBytes}
-use Rattle.octets.proofs.Laws.{each-append, high-word, low-word, bytes-take, bytes-drop, getD-byte}
+use Rattle.octets.specs.Word.{word}
+use Rattle.octets.proofs.Laws.{each-append, each-join, high-word, low-word, bytes-take, bytes-drop, getD-byte}
 use Rattle.meaning.specs.declared.Kind.{Kind}
 use Rattle.meaning.specs.declared.Checked.the-variants.{Fine}
 use Rattle.meaning.specs.Sizes.{headerBytes, ensembleBytes, serviceBytes}
-use Rattle.meaning.specs.Lists.{Service, Ensemble, FicList, kindOf}
-use Rattle.meaning.specs.Layout.{ServiceRow, serviceFields, EnsembleRow, ensembleFields, Chunk, chunkFields, wire, Sent, serviceOf, ensembleOf, listOf, Carries}
-use Rattle.meaning.specs.Reading.{serviceAt, servicesAt, ensembleAt, ensemblesAt, servicesIn, servicesRoom, inside, past, ensemblesChecks, checks, majorIn, minorIn, hIn, eIn, sIn, versionIn, kindIn, streamIn, countIn, payload, listIn, Accepts}
+use Rattle.meaning.specs.Lists.{Service, FicList}
+use Rattle.meaning.specs.Layout.{ServiceRow, serviceFields, EnsembleRow, ensembleFields, Chunk, chunkFields, wire, serviceOf, ensembleOf, listOf, Carries}
+use Rattle.meaning.specs.Reading.{serviceAt, servicesAt, ensemblesAt, servicesIn, servicesRoom, inside, past, ensemblesChecks, majorIn, minorIn, hIn, eIn, sIn, versionIn, streamIn, countIn, payload, listIn, Accepts}
 use Rattle.meaning.proofs.Checks.{EnsemblePasses, ensemble-passes, HeaderPasses, header-passes}
 use Rattle.meaning.proofs.Rows.{serviceRow, serviceThird, ensembleRow, ensembleSecond, ensembleThird, chunkFirst, chunkSecond, chunkRow, wire-row}
 
@@ -53,7 +53,7 @@ service-held s zs b =
     let b0 = getD-byte zs 0 b in
     let b1 = getD-byte zs 1 b in
     let b2 = getD-byte zs 2 b in
-    (omega arith, (omega arith, (omega arith, (omega arith, (omega arith, bytes-take s (drop 3 zs) (bytes-drop 3 zs b))))))
+    each-join InWidth 5 (serviceFields (serviceRowAt s zs)) (omega arith) (bytes-take s (drop 3 zs) (bytes-drop 3 zs b))
 
 service-written : (s : ℕ) (zs : List ℕ) → Bytes zs → serviceBytes + s ≤ length zs → serviceRow (serviceRowAt s zs) ++ drop (serviceBytes + s) zs ≡ zs
 unfolding serviceRow serviceRowAt
@@ -157,32 +157,12 @@ ensemble-held e s ys b =
     let b1 = getD-byte ys 1 b in
     let b2 = getD-byte ys 2 b in
     let n : ℕ = servicesIn e ys in
-    let rows = serviceRowsAt s n (inside e ys) in (
-      b0,
-      (
-        omega arith,
-        (
-          omega arith,
-          (
-            omega arith,
-            (
-              omega arith,
-              (
-                omega arith,
-                (
-                  omega arith,
-                  each-append InWidth (run (take e (drop 3 ys))) (field 8 (length rows) ∷ flatMap serviceFields rows)
-                      (bytes-take e (drop 3 ys) (bytes-drop 3 ys b)) (
-                        omega (arith, length-services s n (inside e ys), getD-byte ys (3 + e) b),
-                        services-held s n (inside e ys) (bytes-drop (ensembleBytes + e) ys b),
-                      ),
-                ),
-              ),
-            ),
-          ),
-        ),
-      ),
-    )
+    let rows = serviceRowsAt s n (inside e ys) in
+    let count : length rows < 256 = omega (arith, length-services s n (inside e ys), getD-byte ys (3 + e) b) in
+    each-join InWidth 7 (ensembleFields (ensembleRowAt e s ys)) (omega arith)
+    (each-append InWidth (run (take e (drop 3 ys))) (field 8 (length rows) ∷ flatMap serviceFields rows)
+    (bytes-take e (drop 3 ys) (bytes-drop 3 ys b))
+    (count, services-held s n (inside e ys) (bytes-drop (ensembleBytes + e) ys b)))
 
 ensemble-written : (e s : ℕ) (ys : List ℕ) → Bytes ys → EnsemblePasses e s ys → ensembleRow (ensembleRowAt e s ys) ++ past e s ys ≡ ys
 unfolding ensembleRow ensembleRowAt
@@ -278,35 +258,12 @@ module _ (xs : List ℕ) (b : Bytes xs) (h : HeaderPasses xs) (r : RowsOf (eIn x
       let b1 = getD-byte xs 1 b in
       let b2 = getD-byte xs 2 b in
       let b3 = getD-byte xs 3 b in
-      let stuffing : List ℕ = after (eIn xs) (sIn xs) (countIn xs) (payload xs) in (
-        omega arith,
-        (
-          omega arith,
-          (
-            omega arith,
-            (
-              omega arith,
-              (
-                omega arith,
-                (
-                  omega arith,
-                  (
-                    omega arith,
-                    (
-                      omega arith,
-                      each-append InWidth (run (take (hIn xs) (drop 4 xs))) (field 8 (length rows) ∷ flatMap ensembleFields rows ++ run stuffing)
-                          (bytes-take (hIn xs) (drop 4 xs) (bytes-drop 4 xs b)) (
-                            omega (arith, counted, getD-byte xs (4 + hIn xs) b),
-                            each-append InWidth (flatMap ensembleFields rows) (run stuffing) (r .held) (r .stuffing),
-                          ),
-                    ),
-                  ),
-                ),
-              ),
-            ),
-          ),
-        ),
-      )
+      let stuffing : List ℕ = after (eIn xs) (sIn xs) (countIn xs) (payload xs) in
+      let count : length rows < 256 = omega (arith, counted, getD-byte xs (4 + hIn xs) b) in
+      each-join InWidth 8 (chunkFields (chunkAt xs)) (omega arith)
+      (each-append InWidth (run (take (hIn xs) (drop 4 xs))) (field 8 (length rows) ∷ flatMap ensembleFields rows ++ run stuffing)
+      (bytes-take (hIn xs) (drop 4 xs) (bytes-drop 4 xs b))
+      (count, each-append InWidth (flatMap ensembleFields rows) (run stuffing) (r .held) (r .stuffing)))
 
 chunk-written : (xs : List ℕ) → Bytes xs → HeaderPasses xs → RowsOf (eIn xs) (sIn xs) (countIn xs) (payload xs) → chunkRow (chunkAt xs) ≡ xs
 unfolding chunkRow chunkAt
@@ -341,7 +298,7 @@ accepted-carried {xs} {k} {m} {l} b a =
     let bytes : wire (chunkAt xs) ≡ xs = wire-row (chunkAt xs) held ∙ chunk-written xs b (p .0) r in
     record {
       chunk = chunkAt xs;
-      sent =
+      allowed =
           record {
             held = held;
             header = length-take-le (hIn xs) (drop 4 xs) (omega (arith, p .0 .fields, length-drop 4 xs));

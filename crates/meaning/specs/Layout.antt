@@ -2,7 +2,7 @@
 -- carry. The record of a table has what the table has: reserved bits, extension bytes and stuffing too.
 use Prim.Native.Nat.{ℕ, _≤_}
 use mathlib.Core.Path.{_≡_}
-use mathlib.Core.List.{List, [], _∷_, _++_, map, flatMap}
+use mathlib.Core.List.{List, _∷_, _++_, map, flatMap}
 use lib.ListN.{length}
 use Rattle.octets.specs.Bits.{Field, field, run, bytesOf, Held}
 use Rattle.octets.specs.Each.{Each}
@@ -91,7 +91,7 @@ chunkFields c =
 unfoldable pub wire : Chunk → List ℕ
 wire c = bytesOf (chunkFields c)
 
-pub record Sent (c : Chunk) : Type 0 where
+pub record Allowed (c : Chunk) : Type 0 where
   -- every number fits its field: so an extension length is 0 to 7 and a count at most 255
   pub held : Held (chunkFields c)
   -- the extensions have the lengths that the header says
@@ -115,7 +115,7 @@ listOf c = record { stream = c .stream; ensembles = map ensembleOf (c .ensembles
 -- edition m: any extension bytes, any reserved bits, any stuffing
 pub record Carries (xs : List ℕ) (k : Kind) (m : ℕ) (l : FicList) : Type 0 where
   pub chunk : Chunk
-  pub sent : Sent chunk
+  pub allowed : Allowed chunk
   pub bytes : wire chunk ≡ xs
   pub major : chunk .major ≡ 0
   pub versions : Each (λ x. x .version ≡ 0) (chunk .ensembles)

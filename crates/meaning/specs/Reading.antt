@@ -76,17 +76,17 @@ check broken f rest = cond broken (Fault f) rest
 unfoldable pub ensemblesChecks : ℕ → ℕ → ℕ → List ℕ → Checked
 ensemblesChecks e s zero ys = Fine
 ensemblesChecks e s (suc n) ys =
-    check (ltb (length ys) (ensembleBytes + e)) EndsEarly
-    (check (not (eqb (versionIn ys) 0)) OtherVersion
-    (check (ltb (length (inside e ys)) (servicesRoom e s ys)) EndsEarly
+    check (ltb (length ys) (ensembleBytes + e)) EndsEarly  -- 9
+    (check (not (eqb (versionIn ys) 0)) OtherVersion  -- 11
+    (check (ltb (length (inside e ys)) (servicesRoom e s ys)) EndsEarly  -- 9
     (ensemblesChecks e s n (past e s ys))))
 
 unfoldable pub checks : List ℕ → Checked
 checks xs =
-    check (ltb longestChunk (length xs)) TooLong
-    (check (ltb (length xs) 2) EndsEarly
-    (check (not (eqb (majorIn xs) 0)) OtherMajor
-    (check (ltb (length xs) (headerBytes + hIn xs)) EndsEarly
+    check (ltb longestChunk (length xs)) TooLong  -- 8
+    (check (ltb (length xs) 2) EndsEarly  -- 9
+    (check (not (eqb (majorIn xs) 0)) OtherMajor  -- 5
+    (check (ltb (length xs) (headerBytes + hIn xs)) EndsEarly  -- 9
     (ensemblesChecks (eIn xs) (sIn xs) (countIn xs) (payload xs)))))
 
 -- ---- the list
@@ -134,7 +134,9 @@ answerTo Fine xs = Listed (kindIn xs) (minorIn xs) (length (listing (listIn xs))
 answerTo (Fault f) xs = Refused f
 
 unfoldable pub readAnswer : List ℕ → List ℕ → Read
-readAnswer xs buffer = cond (ltb (length buffer) longestListing) (Refused ShortBuffer) (answerTo (checks xs) xs)
+readAnswer xs buffer =
+    cond (ltb (length buffer) longestListing) (Refused ShortBuffer)  -- 1
+    (answerTo (checks xs) xs)
 
 -- the listing at the start, bytes past it as they were; a refusal leaves all as it was
 abbrev pub leftBy : Read → List ℕ → List ℕ → List ℕ

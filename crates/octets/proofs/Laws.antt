@@ -19,6 +19,11 @@ module _ {A : Type 0} (P : A → Type 0) where
   each-append [] t p q = q
   each-append (x ∷ s) t p q = (p .0, each-append s t (p .1) q)
 
+  pub each-join : (n : ℕ) (s : List A) → Each P (take n s) → Each P (drop n s) → Each P s
+  each-join zero s p q = q
+  each-join (suc n) [] p q = tt
+  each-join (suc n) (x ∷ s) p q = (p .0, each-join n s (p .1) q)
+
   pub each-left : (s t : List A) → Each P (s ++ t) → Each P s
   each-left [] t h = tt
   each-left (x ∷ s) t h = (h .0, each-left s t (h .1))

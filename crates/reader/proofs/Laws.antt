@@ -1,19 +1,20 @@
 -- Laws of the definitions in the code's own terms: a chunk xs and a place in it, instead of what is left of the chunk. Assumes nothing.
-use mathlib.Core.Path.{_≡_, refl, sym, ap, ap₂, _∙_, subst}
+use mathlib.Core.Path.{_≡_, refl, sym, ap, ap₂, _∙_}
 use mathlib.Core.List.{List, [], _∷_, _++_, flatMap}
 use Prim.Native.Nat.{ℕ, zero, suc, _+_, _-_, _*_, _/_, _%_, _≤_, _<_}
 use native.Mathlib.Nat.{mul-le-mul, add-zero, zero-add, add-assoc, div-div-eq-div-mul}
 use native.Mathlib.Omega.{arith}
 use borrow.Author.Tests.{lt-ltb, le-ltb, eq-eqb, ne-eqb}
-use lib.ListN.{length, getD, drop, length-append, length-drop}
+use lib.ListN.{length, getD, drop, set, length-append, length-drop}
 use lib.Seq.{getD-drop, drop-drop, sets, sets-eq}
-use Rattle.octets.proofs.Stores.{sets-append}
+use Rattle.octets.proofs.Stores.{stores, stored, sets-append}
 use Rattle.octets.specs.Word.{word, high, low}
 use Rattle.meaning.specs.declared.Refusal.the-variants.{EndsEarly, OtherVersion}
 use Rattle.meaning.specs.declared.Checked.the-variants.{Fine, Fault}
 use Rattle.meaning.specs.declared.Kind.{Kind}
 use Rattle.meaning.specs.declared.Read.the-variants.{Listed}
 use Rattle.meaning.specs.Sizes.{ensembleBytes, serviceBytes, tsBytes, enBytes, svBytes, longestListing}
+use Rattle.meaning.specs.Lists.{Service}
 use Rattle.meaning.specs.Listing.{svRecord, tsRecord, enRecord, ensembleListing, listing}
 use Rattle.meaning.specs.Reading.{ensemblesChecks, versionIn, servicesIn, servicesRoom, inside, past, serviceAt, servicesAt, ensembleAt, ensemblesAt, eIn, sIn, streamIn, countIn, payload, listIn, checks, kindIn, minorIn, ReadSays}
 use Rattle.meaning.proofs.Checks.{ensemble-passes}
@@ -74,7 +75,7 @@ module _ (xs : List ℕ) (at e s : ℕ) where
       let one : suc n - 1 ≡ n = omega arith in
       rw one (simp (drop-drop, length-drop, le-ltb _ _ h, version-at, eq-eqb _ _ v, room-at, le-ltb _ _ r))
 
--- ---- the records, as the code has their bytes
+-- ---- the records, as the code stores their bytes
 
 getD-there : (xs : List ℕ) (at : ℕ) → getD (drop at xs) 0 0 ≡ getD xs at 0
 getD-there xs at = getD-drop at xs 0 0 ∙ ap (λ (k : ℕ). getD xs k 0) (add-zero at)
@@ -82,16 +83,19 @@ getD-there xs at = getD-drop at xs 0 0 ∙ ap (λ (k : ℕ). getD xs k 0) (add-z
 word-there : (xs : List ℕ) (at : ℕ) → word (getD (drop at xs) 0 0) (getD (drop at xs) 1 0) ≡ word (getD xs at 0) (getD xs (at + 1) 0)
 word-there xs at = ap₂ word (getD-there xs at) (getD-drop at xs 1 0)
 
-pub service-there : (xs : List ℕ) (at w hi lo : ℕ) → w ≡ word (getD xs at 0) (getD xs (at + 1) 0) → hi ≡ high w → lo ≡ low w → let third = getD xs (at + 2) 0 in 0x53 ∷ 0x56 ∷ hi ∷ lo ∷ third / 8 % 4 ∷ third / 2 % 4 ∷ third % 2 ∷ [] ≡ svRecord (serviceAt (drop at xs))
-service-there xs at w hi lo e p q =
+pub service-stored : (xs l : List ℕ) (at to w hi lo : ℕ) → w ≡ word (getD xs at 0) (getD xs (at + 1) 0) → hi ≡ high w → lo ≡ low w → let third = getD xs (at + 2) 0 in stores (set l to 0x53) to 1 (0x56 ∷ hi ∷ lo ∷ third / 8 % 4 ∷ third / 2 % 4 ∷ third % 2 ∷ []) ≡ sets l to (svRecord (serviceAt (drop at xs)))
+service-stored xs l at to w hi lo e p q =
     let id : w ≡ word (getD (drop at xs) 0 0) (getD (drop at xs) 1 0) = e ∙ sym (word-there xs at) in
-    let third : getD xs (at + 2) 0 ≡ getD (drop at xs) 2 0 = sym (getD-drop at xs 2 0) in
+    let t : ℕ = getD xs (at + 2) 0 in
+    let third : t ≡ getD (drop at xs) 2 0 = sym (getD-drop at xs 2 0) in
     let first = p ∙ ap high id in
     let second = q ∙ ap low id in
-    λ i. 0x53 ∷ 0x56 ∷ first i ∷ second i ∷ third i / 8 % 4 ∷ third i / 2 % 4 ∷ third i % 2 ∷ []
+    stored 0x53 (0x56 ∷ hi ∷ lo ∷ t / 8 % 4 ∷ t / 2 % 4 ∷ t % 2 ∷ []) l to
+    ∙ (λ i. sets l to (0x53 ∷ 0x56 ∷ first i ∷ second i ∷ third i / 8 % 4 ∷ third i / 2 % 4 ∷ third i % 2 ∷ []))
 
-pub ensemble-there : (xs : List ℕ) (at e s : ℕ) → let third = getD xs (at + 2) 0 in 0x45 ∷ 0x4E ∷ getD xs at 0 ∷ third / 32 ∷ third % 32 ∷ getD xs (at + (3 + e)) 0 ∷ [] ≡ enRecord (ensembleAt e s (drop at xs))
-ensemble-there xs at e s =
+pub ensemble-stored : (xs l m : List ℕ) (at to e s : ℕ) → let third = getD xs (at + 2) 0 in let count = getD xs (at + (3 + e)) 0 in m ≡ sets (stores (set l to 0x45) to 1 (0x4E ∷ getD xs at 0 ∷ third / 32 ∷ third % 32 ∷ count ∷ [])) (to + enBytes) (flatMap svRecord (servicesAt s count (drop (at + (ensembleBytes + e)) xs))) → m ≡ sets l to (ensembleListing (ensembleAt e s (drop at xs)))
+unfolding ensembleListing
+ensemble-stored xs l m at to e s is =
     let ys : List ℕ = drop at xs in
     let t : ℕ = getD ys 2 0 in
     let third : getD xs (at + 2) 0 ≡ t = sym (getD-drop at xs 2 0) in
@@ -99,8 +103,15 @@ ensemble-there xs at e s =
     let flag : t / 32 ≡ 4 * (t / 128) + 2 * (t / 64 % 2) + t / 32 % 2 =
     omega (arith, div-div-eq-div-mul t 32 2, div-div-eq-div-mul t 64 2) in
     let flags = ap (λ (b : ℕ). b / 32) third ∙ flag in
-    let count = sym (length-servicesAt s (servicesIn e ys) (inside e ys) ∙ services-at xs at e s) in
-    λ i. 0x45 ∷ 0x4E ∷ id i ∷ flags i ∷ third i % 32 ∷ count i ∷ []
+    let own : List Service = servicesAt s (servicesIn e ys) (inside e ys) in
+    let number = sym (services-at xs at e s) in
+    let count = number ∙ sym (length-servicesAt s (servicesIn e ys) (inside e ys)) in
+    let place = sym (inside-at xs at e s) in
+    is
+    ∙ ap (λ (o : List ℕ). sets o (to + enBytes) (flatMap svRecord (servicesAt s (getD xs (at + (3 + e)) 0) (drop (at + (ensembleBytes + e)) xs))))
+    (stored 0x45 (0x4E ∷ getD xs at 0 ∷ getD xs (at + 2) 0 / 32 ∷ getD xs (at + 2) 0 % 32 ∷ getD xs (at + (3 + e)) 0 ∷ []) l to)
+    ∙ (λ i. sets (sets l to (0x45 ∷ 0x4E ∷ id i ∷ flags i ∷ third i % 32 ∷ count i ∷ [])) (to + enBytes) (flatMap svRecord (servicesAt s (number i) (place i))))
+    ∙ sym (sets-append (enRecord (ensembleAt e s ys)) (flatMap svRecord own) l to)
 
 -- ---- one record after the other
 
@@ -127,14 +138,6 @@ pub services-none : (xs l : List ℕ) (at to s n : ℕ) → n ≤ 0 → sets l t
 unfolding flatMap servicesAt
 services-none xs l at to s zero z = refl
 services-none xs l at to s (suc n) z = absurd (omega arith)
-
-pub ensemble-next : (xs l : List ℕ) (at to e s : ℕ) → sets (sets l to (enRecord (ensembleAt e s (drop at xs)))) (to + enBytes) (flatMap svRecord (servicesAt s (getD xs (at + (3 + e)) 0) (drop (at + (ensembleBytes + e)) xs))) ≡ sets l to (ensembleListing (ensembleAt e s (drop at xs)))
-unfolding ensembleListing
-ensemble-next xs l at to e s =
-    let en : List ℕ = enRecord (ensembleAt e s (drop at xs)) in
-    ap₂ (λ (n : ℕ) (t : List ℕ). sets (sets l to en) (to + enBytes) (flatMap svRecord (servicesAt s n t)))
-    (sym (services-at xs at e s)) (sym (inside-at xs at e s))
-    ∙ sym (sets-append en (flatMap svRecord (servicesAt s (servicesIn e (drop at xs)) (inside e (drop at xs)))) l to)
 
 -- ---- one ensemble after the other: n from the place at on, that passed, the first of them with k services
 
@@ -203,6 +206,9 @@ ensembles-stored xs l m at to e s n k some is stored =
 pub length-listed : (xs : List ℕ) → length (listing (listIn xs)) ≡ tsBytes + length (flatMap ensembleListing (ensemblesAt (eIn xs) (sIn xs) (countIn xs) (payload xs)))
 unfolding listing listIn
 length-listed xs = omega arith
+
+pub listed-length : (xs : List ℕ) (n : ℕ) → n ≡ tsBytes + length (flatMap ensembleListing (ensemblesAt (eIn xs) (sIn xs) (countIn xs) (payload xs))) → n ≡ length (listing (listIn xs))
+listed-length xs n e = e ∙ sym (length-listed xs)
 
 pub listing-stored : (xs l m : List ℕ) (w hi lo : ℕ) → w ≡ streamIn xs → hi ≡ high w → lo ≡ low w → m ≡ sets (sets l 0 (0x54 ∷ 0x53 ∷ hi ∷ lo ∷ countIn xs ∷ [])) tsBytes (flatMap ensembleListing (ensemblesAt (eIn xs) (sIn xs) (countIn xs) (payload xs))) → m ≡ sets l 0 (listing (listIn xs))
 unfolding listing listIn

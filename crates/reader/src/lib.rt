@@ -17,8 +17,8 @@ ghost use Prim.Native.Nat.{_+_, _*_, _≤_, _<_};
 ghost use lib.ListN.{length, drop};
 ghost use lib.Seq.{sets};
 ghost use Rattle.meaning.specs.Sizes.{longestChunk, longestListing, ensembleBytes, serviceBytes, enBytes, svBytes};
-ghost use Rattle.meaning.specs.Listing.{svRecord, enRecord, tsRecord, ensembleListing, listing};
-ghost use Rattle.meaning.specs.Reading.{checks, ensemblesChecks, serviceAt, servicesAt, ensembleAt, ensemblesAt, servicesIn, servicesRoom, listIn, kindIn, ReadSays};
+ghost use Rattle.meaning.specs.Listing.{svRecord, ensembleListing, listing};
+ghost use Rattle.meaning.specs.Reading.{checks, ensemblesChecks, serviceAt, servicesAt, ensembleAt, ensemblesAt, servicesIn, servicesRoom, listIn, ReadSays};
 
 // The checks on count ensembles from a place of the chunk on, their extensions e and s bytes long.
 fn check_ensembles(chunk: &[u8], from: usize, e: usize, s: usize, count: usize) -> Checked
@@ -29,15 +29,19 @@ fn check_ensembles(chunk: &[u8], from: usize, e: usize, s: usize, count: usize) 
     let mut left = count;
     while 0 < left {
         if chunk.len() - at < ENSEMBLE + e {
+            // its fields run past the end
             return Checked::Fault(Refusal::EndsEarly);
         }
-        if chunk[at + 1] % 32 != 0 {
-            return Checked::Fault(Refusal::OtherVersion);
-        }
+        let version = chunk[at + 1] % 32;
         let services = chunk[at + (3 + e)] as usize;
         let inside = at + (ENSEMBLE + e);
         let room = services * (SERVICE + s);
-        if chunk.len() - inside < room {
+        let rest = chunk.len() - inside;
+        if version != 0 {
+            return Checked::Fault(Refusal::OtherVersion);
+        }
+        if rest < room {
+            // its services run past the end
             return Checked::Fault(Refusal::EndsEarly);
         }
         at = inside + room;

@@ -1,3 +1,4 @@
+-- `reader::check_chunk` meets its contract: at each `return` the tests that led there are what a law of `checks` asks. Assumes nothing.
 use native.Mathlib.Omega.{arith}
 use Prim.Native.Nat.{_+_, _%_}
 use mathlib.Core.Path.{sym, _∙_}
@@ -7,75 +8,56 @@ use Rattle.meaning.proofs.Checks.{checks-long, checks-bare, checks-major, check
 use borrow.Author.Needs.{needs}
 use Rattle.reader.proofs.check_chunk.Statement.{statement}
 use Rattle.reader.proofs.check_chunk.Tie as tie
-use Rattle.reader.proofs.check_chunk.Reads as reads
-use Rattle.reader.proofs.check_chunk.Lts as lts
-use Rattle.reader.proofs.check_ensembles.Reads as check-ensembles-reads
 
--- src/lib.rt:45:9
 returns : tie.Need-returns
 returns c = sym (checks-long (now (c .before .before .args .chunk)) (c .if1 .taken))
 
--- src/lib.rt:48:9
 returns-2 : tie.Need-returns-2
 returns-2 c = sym (checks-bare (now (c .before .before .before .args .chunk)) (c .if2 .taken))
 
--- src/lib.rt:50:17
 shared-slice-read-first : tie.Need-shared-slice-read-first
 shared-slice-read-first c = search needs
 
--- src/lib.rt:52:9
 returns-3 : tie.Need-returns-3
 returns-3 c =
     sym
     (checks-major (now (c .before .before .before .before .before .args .chunk)) (c .before .before .before .if1 .left) (c .before .before .if2 .left) (c .if3 .taken))
 
--- src/lib.rt:54:13
 cast-h : tie.Need-cast-h
 cast-h c = search needs
 
--- src/lib.rt:55:22
 add-if4 : tie.Need-add-if4
 add-if4 c = search needs
 
--- src/lib.rt:56:9
 returns-4 : tie.Need-returns-4
 returns-4 c =
     sym
     (checks-cut (now (c .before .before .before .before .before .before .args .chunk)) (c .before .before .before .before .if1 .left) (c .before .before .before .if2 .left) (c .before .if3 .left) (c .if4 .taken))
 
--- src/lib.rt:58:18
 shared-slice-read-second : tie.Need-shared-slice-read-second
 shared-slice-read-second c = search needs
 
--- src/lib.rt:59:13
 cast-e : tie.Need-cast-e
 cast-e c = omega (arith, c .shared-slice-known3 .given 1)
 
--- src/lib.rt:60:13
 cast-s : tie.Need-cast-s
 cast-s c = search needs
 
--- src/lib.rt:61:23
 add-count : tie.Need-add-count
 add-count c = search needs
 
--- src/lib.rt:61:17
 shared-slice-read-count : tie.Need-shared-slice-read-count
 shared-slice-read-count c = search needs
 
--- src/lib.rt:61:17
 cast-count : tie.Need-cast-count
 cast-count c = omega (arith, c .shared-slice-known4 .given (4 + getD (now (c .before .before .before .before .before .before .before .before .args .chunk)) 0 0 % 8))
 
--- src/lib.rt:62:28
 add-check-ensembles : tie.Need-add-check-ensembles
 add-check-ensembles c = search needs
 
--- src/lib.rt:62:5
 check-ensembles-requires : tie.Need-check-ensembles-requires
 check-ensembles-requires c κs = omega (arith, c .before .shared-slice-known3 .given 1)
 
--- src/lib.rt:41:1
 returns-5 : tie.Need-returns-5
 returns-5 c =
     c .check-ensembles .ensures

@@ -1,3 +1,4 @@
+-- `reader::read` keeps its promise: each answer is one of the three cases of `ReadSays`. Assumes nothing.
 use native.Mathlib.Omega.{arith}
 use mathlib.Core.Path.{sym, _∙_}
 use denote.Ref.{now}
@@ -7,54 +8,38 @@ use Rattle.reader.proofs.Laws.{read-stored}
 use borrow.Author.Needs.{needs}
 use Rattle.reader.proofs.read.Statement.{statement}
 use Rattle.reader.proofs.read.Tie as tie
-use Rattle.reader.proofs.read.Reads as reads
-use Rattle.reader.proofs.read.Lts as lts
-use Rattle.meaning.proofs.kind_of.Reads as kind-of-reads
-use Rattle.reader.proofs.check_chunk.Reads as check-chunk-reads
-use Rattle.reader.proofs.write_listing.Reads as write-listing-reads
 
--- src/lib.rt:162:9
 returns : tie.Need-returns
 returns c = says-short (now (c .before .before .before .args .chunk)) (now (c .before .before .before .args .out)) (c .if1 .taken)
 
--- src/lib.rt:164:11
 check-chunk-requires : tie.Need-check-chunk-requires
 check-chunk-requires c κs = search needs
 
--- src/lib.rt:165:24
 enum-known-refusal : tie.Need-enum-known-refusal
 enum-known-refusal c = search needs
 
--- src/lib.rt:167:47
 enum-told : tie.Need-enum-told
 enum-told c = search needs
 
--- src/lib.rt:167:17
 write-listing-requires : tie.Need-write-listing-requires
 write-listing-requires c κs = (sym (c .before .before .before .check-chunk .ensures) ∙ c .before .enum-told .given .1, c .before .before .before .before .if1 .left)
 
--- src/lib.rt:168:41
 shared-slice-read-kind-of : tie.Need-shared-slice-read-kind-of
 shared-slice-read-kind-of c = omega (arith, header-passes (now (c .before .before .before .before .before .before .before .before .before .before .before .args .chunk)) (sym (c .before .before .before .before .before .before .before .check-chunk .ensures) ∙ c .before .before .before .before .before .enum-told .given .1) .0 .fields)
 
--- src/lib.rt:168:17
 kind-of-requires : tie.Need-kind-of-requires
 kind-of-requires c κs = search needs
 
--- src/lib.rt:169:25
 shared-slice-read-minor : tie.Need-shared-slice-read-minor
 shared-slice-read-minor c = omega (arith, header-passes (now (c .before .before .before .before .before .before .before .before .before .before .before .before .before .args .chunk)) (sym (c .before .before .before .before .before .before .before .before .before .check-chunk .ensures) ∙ c .before .before .before .before .before .before .before .enum-told .given .1) .0 .fields)
 
--- src/lib.rt:158:1
 returns-2 : tie.Need-returns-2
 returns-2 c =
     says-refused (now (c .before .before .before .before .before .before .before .args .chunk)) (now (c .before .before .before .before .before .before .before .args .out)) (c .before .before .before .before .if1 .left) (sym (c .before .before .before .check-chunk .ensures) ∙ c .before .refusal .given .1)
 
--- src/lib.rt:158:1
 same-length : tie.Need-same-length
 same-length c = search needs
 
--- src/lib.rt:158:1
 returns-3 : tie.Need-returns-3
 returns-3 c =
     read-stored (now (c .before .before .before .before .before .before .before .before .before .before .before .before .before .args .chunk)) (now (c .before .before .before .before .before .before .before .before .before .before .before .before .before .args .out)) _ _ _

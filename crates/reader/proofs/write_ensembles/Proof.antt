@@ -1,3 +1,5 @@
+-- `reader::write_ensembles` meets its contract. The loop's invariant: the checks passed what is left, and what is left, put here, makes the
+-- whole that was asked for. The measure is the number of ensembles left. Assumes nothing.
 use borrow.Author.Needs.{needs}
 use native.Mathlib.Omega.{arith}
 use Prim.Native.Nat.{_+_, _-_, _≤_}
@@ -12,9 +14,6 @@ use Rattle.meaning.specs.Reading.{ensemblesChecks, ensemblesAt}
 use Rattle.reader.proofs.Laws.{after, ensembles-some, ensembles-none, length-ensembles, ensembles-stored}
 use Rattle.reader.proofs.write_ensembles.Statement.{statement}
 use Rattle.reader.proofs.write_ensembles.Tie as tie
-use Rattle.reader.proofs.write_ensembles.Reads as reads
-use Rattle.reader.proofs.write_ensembles.Lts as lts
-use Rattle.reader.proofs.write_ensemble.Reads as write-ensemble-reads
 
 abbrev Inv-loop : tie.InvT-loop
 Inv-loop chunk from e s count out₀ start at₀ to₀ left₀ out at to left =
@@ -29,11 +28,9 @@ Inv-loop chunk from e s count out₀ start at₀ to₀ left₀ out at to left =
 abbrev μ-loop : tie.MeasureT-loop
 μ-loop chunk from e s count out₀ start at₀ to₀ left₀ out at to left = left
 
--- src/lib.rt:128:5
 loop-holds : tie.Need-loop-holds Inv-loop μ-loop
 loop-holds c = (c .before .before .pre .0 .0, c .before .before .pre .1 .0, refl, refl, refl)
 
--- src/lib.rt:129:13
 write-ensemble-requires : tie.Need-write-ensemble-requires Inv-loop μ-loop
 write-ensemble-requires c κs =
     let a = c .before .before .before .before .before .args in
@@ -55,35 +52,27 @@ there c =
     let l = c .before .before .before .before .before .loop in
     ensembles-some (now (a .chunk)) (l .at) (a .e) (a .s) (l .left) _ (l .inv .0) (c .before .before .before .before .loop-test .taken) (l .inv .1) (c .before .before .write-ensemble .ensures .0)
 
--- src/lib.rt:130:20
 add-at : tie.Need-add-at Inv-loop μ-loop
 add-at c = omega arith
 
--- src/lib.rt:130:14
 add-at-2 : tie.Need-add-at-2 Inv-loop μ-loop
 add-at-2 c = omega arith
 
--- src/lib.rt:130:48
 add-at-3 : tie.Need-add-at-3 Inv-loop μ-loop
 add-at-3 c = omega arith
 
--- src/lib.rt:130:36
 mul-at : tie.Need-mul-at Inv-loop μ-loop
 mul-at c = omega (arith, there c .0)
 
--- src/lib.rt:130:14
 add-at-4 : tie.Need-add-at-4 Inv-loop μ-loop
 add-at-4 c = omega (arith, there c .0)
 
--- src/lib.rt:131:32
 mul-to : tie.Need-mul-to Inv-loop μ-loop
 mul-to c = omega (arith, there c .0)
 
--- src/lib.rt:131:20
 add-to : tie.Need-add-to Inv-loop μ-loop
 add-to c = omega (arith, there c .0)
 
--- src/lib.rt:131:14
 add-to-2 : tie.Need-add-to-2 Inv-loop μ-loop
 add-to-2 c =
     let a = c .before .before .before .before .before .before .before .before .args in
@@ -95,15 +84,12 @@ add-to-2 c =
       length-ensembles (now (a .chunk)) (l .at) (a .e) (a .s) (l .left) _ (c .before .before .before .before .loop-test .taken) (c .before .before .write-ensemble .ensures .0),
     )
 
--- src/lib.rt:132:9
 sub-left : tie.Need-sub-left Inv-loop μ-loop
 sub-left c = omega arith
 
--- src/lib.rt:128:5
 loop-less : tie.Need-loop-less Inv-loop μ-loop
 loop-less c = omega arith
 
--- src/lib.rt:128:5
 loop-again : tie.Need-loop-again Inv-loop μ-loop
 loop-again c =
     let a = c .before .before .before .before .before .before .before .before .args in
@@ -118,11 +104,9 @@ loop-again c =
       ensembles-stored xs (l .out) _ (l .at) (l .to) (a .e) (a .s) (l .left) _ some is (c .before .before .write-ensemble .ensures .1) ∙ l .inv .4,
     )
 
--- src/lib.rt:118:1
 same-length : tie.Need-same-length Inv-loop μ-loop
 same-length c = search needs
 
--- src/lib.rt:118:1
 returns : tie.Need-returns Inv-loop μ-loop
 returns c =
     let a = c .before .before .before .before .args in

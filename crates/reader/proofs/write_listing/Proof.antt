@@ -1,98 +1,73 @@
+-- `reader::write_listing` meets its contract: its five stores are the stream's record, and the ensembles' records come after it. Assumes nothing.
 use native.Mathlib.Omega.{arith}
 use Prim.Native.Nat.{_+_, _%_}
-use mathlib.Core.Path.{sym, _∙_}
+use mathlib.Core.Path.{_∙_}
 use lib.ListN.{getD, length-set}
 use denote.Ref.{now}
 use Rattle.meaning.proofs.Checks.{header-passes}
 use Rattle.meaning.proofs.Lengths.{listing-fits}
-use Rattle.reader.proofs.Laws.{length-listed, listing-stored}
+use Rattle.reader.proofs.Laws.{length-listed, listed-length, listing-stored}
 use borrow.Author.Needs.{needs}
 use Rattle.reader.proofs.write_listing.Statement.{statement}
 use Rattle.reader.proofs.write_listing.Tie as tie
-use Rattle.reader.proofs.write_listing.Reads as reads
-use Rattle.reader.proofs.write_listing.Lts as lts
-use Rattle.octets.proofs.high_of.Reads as high-of-reads
-use Rattle.octets.proofs.low_of.Reads as low-of-reads
-use Rattle.octets.proofs.word_of.Reads as word-of-reads
-use Rattle.reader.proofs.write_ensembles.Reads as write-ensembles-reads
 
--- src/lib.rt:143:14
 shared-slice-read-h : tie.Need-shared-slice-read-h
 shared-slice-read-h c = omega (arith, header-passes (now (c .before .before .before .args .chunk)) (c .before .before .before .pre .0) .0 .fields)
 
--- src/lib.rt:143:13
 cast-h : tie.Need-cast-h
 cast-h c = search needs
 
--- src/lib.rt:144:18
 shared-slice-read-second : tie.Need-shared-slice-read-second
 shared-slice-read-second c = omega (arith, header-passes (now (c .before .before .before .before .args .chunk)) (c .before .before .before .before .pre .0) .0 .fields)
 
--- src/lib.rt:145:13
 cast-e : tie.Need-cast-e
 cast-e c = omega (arith, c .shared-slice-known3 .given 1)
 
--- src/lib.rt:146:13
 cast-s : tie.Need-cast-s
 cast-s c = search needs
 
--- src/lib.rt:147:34
 shared-slice-read-word-of : tie.Need-shared-slice-read-word-of
 shared-slice-read-word-of c = omega (arith, header-passes (now (c .before .before .before .before .before .args .chunk)) (c .before .before .before .before .before .pre .0) .0 .fields)
 
--- src/lib.rt:147:44
 shared-slice-read-word-of-2 : tie.Need-shared-slice-read-word-of-2
 shared-slice-read-word-of-2 c = omega (arith, header-passes (now (c .before .before .before .before .before .before .args .chunk)) (c .before .before .before .before .before .before .pre .0) .0 .fields)
 
--- src/lib.rt:147:9
 word-of-requires : tie.Need-word-of-requires
 word-of-requires c κs = search needs
 
--- src/lib.rt:148:23
 add-count : tie.Need-add-count
 add-count c = search needs
 
--- src/lib.rt:148:17
 shared-slice-read-count : tie.Need-shared-slice-read-count
 shared-slice-read-count c = omega (arith, header-passes (now (c .before .before .before .before .before .before .before .before .args .chunk)) (c .before .before .before .before .before .before .before .before .pre .0) .0 .fields)
 
--- src/lib.rt:149:5
 slice-write-out : tie.Need-slice-write-out
 slice-write-out c = search needs
 
--- src/lib.rt:150:5
 slice-write-out-2 : tie.Need-slice-write-out-2
 slice-write-out-2 c = simp length-set (omega arith)
 
--- src/lib.rt:151:14
 high-of-requires : tie.Need-high-of-requires
 high-of-requires c κs = search needs
 
--- src/lib.rt:151:5
 slice-write-out-3 : tie.Need-slice-write-out-3
 slice-write-out-3 c = simp length-set (omega arith)
 
--- src/lib.rt:152:14
 low-of-requires : tie.Need-low-of-requires
 low-of-requires c κs = search needs
 
--- src/lib.rt:152:5
 slice-write-out-4 : tie.Need-slice-write-out-4
 slice-write-out-4 c = simp length-set (omega arith)
 
--- src/lib.rt:153:5
 slice-write-out-5 : tie.Need-slice-write-out-5
 slice-write-out-5 c = simp length-set (omega arith)
 
--- src/lib.rt:154:28
 add-write-ensembles : tie.Need-add-write-ensembles
 add-write-ensembles c = search needs
 
--- src/lib.rt:154:46
 cast-write-ensembles : tie.Need-cast-write-ensembles
 cast-write-ensembles c = omega (arith, c .before .before .shared-slice-known6 .given (4 + getD (now (c .before .before .before .before .before .before .before .before .before .before .args .chunk)) 0 0 % 8))
 
--- src/lib.rt:154:5
 write-ensembles-requires : tie.Need-write-ensembles-requires
 write-ensembles-requires c κs =
     let xs = now (c .before .before .before .before .before .before .before .before .before .before .before .args .chunk) in
@@ -101,15 +76,13 @@ write-ensembles-requires c κs =
       (h .1, simp length-set (omega (arith, c .before .before .before .before .before .before .before .before .before .before .before .pre .1, length-listed xs, listing-fits xs (c .before .before .before .before .before .before .before .before .before .before .before .pre .0)))),
     )
 
--- src/lib.rt:138:1
 same-length : tie.Need-same-length
 same-length c = c .before .before .write-ensembles .kept .1 .1 .1 .1 .1 .0 ∙ simp length-set
 
--- src/lib.rt:138:1
 returns : tie.Need-returns
 returns c =
     let xs = now (c .before .before .before .before .before .before .before .before .before .before .before .before .before .before .args .chunk) in (
-      c .before .before .write-ensembles .ensures .0 ∙ sym (length-listed xs),
+      listed-length xs _ (c .before .before .write-ensembles .ensures .0),
       listing-stored xs (now (c .before .before .before .before .before .before .before .before .before .before .before .before .before .before .args .out)) _ _ _ _ (c .before .before .before .before .before .before .before .word-of .ensures) (c .before .before .before .before .before .high-of .ensures) (c .before .before .before .before .low-of .ensures) (c .before .before .write-ensembles .ensures .1),
     )
 

@@ -1,3 +1,5 @@
+-- `reader::write_services` meets its contract. The loop's invariant: what is left, put here, makes the whole that was asked for. The measure
+-- is the number of services left. Assumes nothing.
 use borrow.Author.Needs.{needs}
 use native.Mathlib.Omega.{arith}
 use Prim.Native.Nat.{_+_, _*_, _≤_}
@@ -12,9 +14,6 @@ use Rattle.meaning.specs.Reading.{servicesAt}
 use Rattle.reader.proofs.Laws.{row-first, row-rest, services-next, services-none}
 use Rattle.reader.proofs.write_services.Statement.{statement}
 use Rattle.reader.proofs.write_services.Tie as tie
-use Rattle.reader.proofs.write_services.Reads as reads
-use Rattle.reader.proofs.write_services.Lts as lts
-use Rattle.reader.proofs.write_service.Reads as write-service-reads
 
 abbrev Inv-loop : tie.InvT-loop
 Inv-loop chunk from s count out₀ start at₀ to₀ left₀ out at to left =
@@ -26,35 +25,27 @@ Inv-loop chunk from s count out₀ start at₀ to₀ left₀ out at to left =
 abbrev μ-loop : tie.MeasureT-loop
 μ-loop chunk from s count out₀ start at₀ to₀ left₀ out at to left = left
 
--- src/lib.rt:89:5
 loop-holds : tie.Need-loop-holds Inv-loop μ-loop
 loop-holds c = (c .before .before .pre .0, c .before .before .pre .1, refl, refl)
 
--- src/lib.rt:90:9
 write-service-requires : tie.Need-write-service-requires Inv-loop μ-loop
 write-service-requires c κs = omega (arith, (row-first (c .before .before .loop .at) (serviceBytes + c .before .before .before .before .before .args .s) (length (now (c .before .before .before .before .before .args .chunk))) (c .before .before .loop .left) (c .before .loop-test .taken) (c .before .before .loop .inv .0)))
 
--- src/lib.rt:91:15
 add-at : tie.Need-add-at Inv-loop μ-loop
 add-at c = omega (arith, (row-first (c .before .before .before .before .before .loop .at) (serviceBytes + c .before .before .before .before .before .before .before .before .args .s) (length (now (c .before .before .before .before .before .before .before .before .args .chunk))) (c .before .before .before .before .before .loop .left) (c .before .before .before .before .loop-test .taken) (c .before .before .before .before .before .loop .inv .0)))
 
--- src/lib.rt:91:9
 add-at-2 : tie.Need-add-at-2 Inv-loop μ-loop
 add-at-2 c = omega (arith, (row-first (c .before .before .before .before .before .loop .at) (serviceBytes + c .before .before .before .before .before .before .before .before .args .s) (length (now (c .before .before .before .before .before .before .before .before .args .chunk))) (c .before .before .before .before .before .loop .left) (c .before .before .before .before .loop-test .taken) (c .before .before .before .before .before .loop .inv .0)))
 
--- src/lib.rt:92:9
 add-to : tie.Need-add-to Inv-loop μ-loop
 add-to c = omega arith
 
--- src/lib.rt:93:9
 sub-left : tie.Need-sub-left Inv-loop μ-loop
 sub-left c = omega arith
 
--- src/lib.rt:89:5
 loop-less : tie.Need-loop-less Inv-loop μ-loop
 loop-less c = omega arith
 
--- src/lib.rt:89:5
 loop-again : tie.Need-loop-again Inv-loop μ-loop
 loop-again c =
     let a = c .before .before .before .before .before .before .before .before .args in
@@ -66,11 +57,9 @@ loop-again c =
       services-next (now (a .chunk)) (l .out) _ (l .at) (l .to) (a .s) (l .left) some (c .before .before .write-service .ensures) ∙ l .inv .3,
     )
 
--- src/lib.rt:82:1
 same-length : tie.Need-same-length Inv-loop μ-loop
 same-length c = search needs
 
--- src/lib.rt:82:1
 returns : tie.Need-returns Inv-loop μ-loop
 returns c =
     sym

@@ -1,26 +1,19 @@
-use native.Mathlib.Omega.{arith}
+-- `samples::run_part` is safe and ends. Assumes nothing.
 use mathlib.Core.Path.{sym}
 use lib.Seq.{length-take-le}
 use borrow.Author.Needs.{needs}
 use Rattle.samples.proofs.run_part.Statement.{statement}
 use Rattle.samples.proofs.run_part.Tie as tie
-use Rattle.samples.proofs.run_part.Reads as reads
-use Rattle.samples.proofs.run_part.Lts as lts
-use Rattle.samples.proofs.run.Reads as run-reads
 
--- src/main.rt:88:19
 slice-aggregate-run : tie.Need-slice-aggregate-run
 slice-aggregate-run c = sym (length-take-le _ _ (c .before .if1 .taken))
 
--- src/main.rt:88:9
 run-requires : tie.Need-run-requires
 run-requires c κs = search needs
 
--- src/main.rt:86:1
 returns : tie.Need-returns
 returns c = search needs
 
--- src/main.rt:86:1
 returns-2 : tie.Need-returns-2
 returns-2 c = search needs
 

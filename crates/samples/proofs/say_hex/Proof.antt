@@ -1,12 +1,9 @@
+-- `samples::say_hex` is safe and ends. Assumes nothing.
 use borrow.Author.Needs.{needs}
 use native.Mathlib.Omega.{arith}
 use Prim.Native.Nat.{_-_, _≤_}
 use Rattle.samples.proofs.say_hex.Statement.{statement}
 use Rattle.samples.proofs.say_hex.Tie as tie
-use Rattle.samples.proofs.say_hex.Reads as reads
-use Rattle.samples.proofs.say_hex.Lts as lts
-use Rattle.io.proofs.print_hex.Reads as print-hex-reads
-use Rattle.samples.proofs.wide.Reads as wide-reads
 
 abbrev Inv-loop : tie.InvT-loop
 Inv-loop buffer length i₀ i = i ≤ length
@@ -14,35 +11,27 @@ Inv-loop buffer length i₀ i = i ≤ length
 abbrev μ-loop : tie.MeasureT-loop
 μ-loop buffer length i₀ i = length - i
 
--- src/main.rt:28:5
 loop-holds : tie.Need-loop-holds Inv-loop μ-loop
 loop-holds c = search needs
 
--- src/main.rt:30:47
 shared-slice-read-wide : tie.Need-shared-slice-read-wide Inv-loop μ-loop
 shared-slice-read-wide c = omega arith
 
--- src/main.rt:30:42
 wide-requires : tie.Need-wide-requires Inv-loop μ-loop
 wide-requires c κs = search needs
 
--- src/main.rt:30:13
 print-hex-requires : tie.Need-print-hex-requires Inv-loop μ-loop
 print-hex-requires c κs = search needs
 
--- src/main.rt:32:9
 add-i : tie.Need-add-i Inv-loop μ-loop
 add-i c = omega arith
 
--- src/main.rt:28:5
 loop-less : tie.Need-loop-less Inv-loop μ-loop
 loop-less c = omega arith
 
--- src/main.rt:28:5
 loop-again : tie.Need-loop-again Inv-loop μ-loop
 loop-again c = search needs
 
--- src/main.rt:26:1
 returns : tie.Need-returns Inv-loop μ-loop
 returns c = search needs
 

@@ -1,3 +1,4 @@
+-- `samples::made::Made::of` is safe and ends. Assumes nothing.
 use borrow.Author.Needs.{needs}
 use native.Mathlib.Omega.{arith}
 use Prim.Native.Nat.{_-_, _≤_}
@@ -5,10 +6,6 @@ use mathlib.Core.Path.{_≡_}
 use lib.ListN.{length}
 use Rattle.samples.proofs.made.Made.of.Statement.{statement}
 use Rattle.samples.proofs.made.Made.of.Tie as tie
-use Rattle.samples.proofs.made.Made.of.Reads as reads
-use Rattle.samples.proofs.made.Made.of.Lts as lts
-use Rattle.samples.proofs.made.Made.new.Reads as new-reads
-use Rattle.samples.proofs.made.Made.with.Reads as with-reads
 
 abbrev Inv-loop : tie.InvT-loop
 Inv-loop bytes made₀ i₀ i-end made i = (i ≤ i-end) × (i-end ≡ length bytes)
@@ -16,35 +13,27 @@ Inv-loop bytes made₀ i₀ i-end made i = (i ≤ i-end) × (i-end ≡ length by
 abbrev μ-loop : tie.MeasureT-loop
 μ-loop bytes made₀ i₀ i-end made i = i-end - i
 
--- src/made.rt:28:13
 new-requires : tie.Need-new-requires Inv-loop μ-loop
 new-requires c κs = search needs
 
--- src/made.rt:29:9
 loop-holds : tie.Need-loop-holds Inv-loop μ-loop
 loop-holds c = search needs
 
--- src/made.rt:30:30
 shared-slice-read-with : tie.Need-shared-slice-read-with Inv-loop μ-loop
 shared-slice-read-with c = omega arith
 
--- src/made.rt:30:13
 with-requires : tie.Need-with-requires Inv-loop μ-loop
 with-requires c κs = search needs
 
--- src/made.rt:29:13
 add-i : tie.Need-add-i Inv-loop μ-loop
 add-i c = omega arith
 
--- src/made.rt:29:9
 loop-less : tie.Need-loop-less Inv-loop μ-loop
 loop-less c = omega arith
 
--- src/made.rt:29:9
 loop-again : tie.Need-loop-again Inv-loop μ-loop
 loop-again c = search needs
 
--- src/made.rt:27:5
 returns : tie.Need-returns Inv-loop μ-loop
 returns c = search needs
 
