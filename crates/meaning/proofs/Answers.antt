@@ -16,7 +16,7 @@ use Rattle.meaning.specs.declared.Checked.the-variants.{Fine, Fault}
 use Rattle.meaning.specs.declared.Read.{Read}
 use Rattle.meaning.specs.declared.Read.the-variants.{Listed, Refused}
 use Rattle.meaning.specs.Sizes.{longestChunk, headerBytes, ensembleBytes, longestListing}
-use Rattle.meaning.specs.Numbers.{numberOf, among}
+use Rattle.meaning.specs.Numbers.{numberOf, readNumber, readMinor, readLength, among}
 use Rattle.meaning.specs.Lists.{FicList}
 use Rattle.meaning.specs.Layout.{Carries}
 use Rattle.meaning.specs.Listing.{listing}
@@ -157,11 +157,13 @@ checks-among xs =
     (among-check chunkNumbers (not (eqb (majorIn xs) 0)) OtherMajor _ tt
     (among-check chunkNumbers (ltb (length xs) (headerBytes + hIn xs)) EndsEarly _ tt (ensembles-among (eIn xs) (sIn xs) (countIn xs) (payload xs)))))
 
--- a refusal is one of five numbers, and writes nothing
-pub refused-says : {xs before after : List ℕ} {f : Refusal} → ReadSays xs before (Refused f) after → T (among (1 ∷ 5 ∷ 8 ∷ 9 ∷ 11 ∷ []) (numberOf f)) × (after ≡ before)
+-- a refusal is one of five numbers, with every count 0, and writes nothing
+pub refused-says : {xs before after : List ℕ} {f : Refusal} → ReadSays xs before (Refused f) after → T (among (1 ∷ 5 ∷ 8 ∷ 9 ∷ 11 ∷ []) (readNumber (Refused f))) × (readMinor (Refused f) ≡ 0) × (readLength (Refused f) ≡ 0) × (after ≡ before)
 unfolding readAnswer readBuffer
 refused-says {xs} {before} {after} {f} s = (
   go (ltb (length before) longestListing) (checks xs) (checks-among xs) (sym (s .answers)),
+  refl,
+  refl,
   s .leaves ∙ ap (λ (r : Read). leftBy r xs before) (sym (s .answers)),
 )
   where

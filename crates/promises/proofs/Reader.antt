@@ -7,13 +7,14 @@ use lib.Dec.{T}
 use lib.ListN.{length, drop}
 use Rattle.octets.specs.Bits.{Bytes}
 use Rattle.meaning.specs.declared.Kind.{Kind}
+use Rattle.meaning.specs.declared.Kind.the-variants.{This}
 use Rattle.meaning.specs.declared.Refusal.{Refusal}
 use Rattle.meaning.specs.declared.Refusal.the-variants.{OtherMajor}
 use Rattle.meaning.specs.declared.Checked.the-variants.{Fine}
 use Rattle.meaning.specs.declared.Read.{Read}
 use Rattle.meaning.specs.declared.Read.the-variants.{Listed, Refused}
 use Rattle.meaning.specs.Sizes.{longestChunk, longestListing, tsBytes, enBytes, svBytes}
-use Rattle.meaning.specs.Numbers.{numberOf, among}
+use Rattle.meaning.specs.Numbers.{readNumber, readMinor, readLength, among}
 use Rattle.meaning.specs.Lists.{FicList, servicesOf}
 use Rattle.meaning.specs.Layout.{Carries}
 use Rattle.meaning.specs.Listing.{listing}
@@ -22,7 +23,7 @@ use Rattle.meaning.proofs.Complete.{carried-accepted}
 use Rattle.meaning.proofs.Sound.{accepted-carried}
 use Rattle.meaning.proofs.Lengths.{length-listing, listing-fits}
 use Rattle.meaning.proofs.Answers.{carried-says, listed-carried, carries-once, dress-disregarded, says-once, says-major, refused-says}
-use Rattle.meaning.proofs.Samples.{longest-reached}
+use Rattle.meaning.proofs.Samples.{firstChunk, firstList, first-carried, longest-reached}
 
 module _ {xs : List ℕ} {k : Kind} {m : ℕ} {l : FicList} where
   -- the two meanings agree: what the standard's layout carries, the checks pass and the reading gives; and the other way round
@@ -48,8 +49,8 @@ module _ {xs : List ℕ} {k : Kind} {m : ℕ} {l : FicList} where
 pub only-chunks-listed : {xs before after : List ℕ} {k : Kind} {m n : ℕ} → Bytes xs → ReadSays xs before (Listed k m n) after → (l : FicList) × Carries xs k m l × (n ≡ length (listing l)) × (after ≡ listing l ++ drop n before)
 only-chunks-listed = listed-carried
 
--- a refusal is one of five numbers, and writes nothing
-pub refusal-numbers : {xs before after : List ℕ} {f : Refusal} → ReadSays xs before (Refused f) after → T (among (1 ∷ 5 ∷ 8 ∷ 9 ∷ 11 ∷ []) (numberOf f)) × (after ≡ before)
+-- a refusal is one of five numbers, with every count 0, and writes nothing
+pub refusal-numbers : {xs before after : List ℕ} {f : Refusal} → ReadSays xs before (Refused f) after → T (among (1 ∷ 5 ∷ 8 ∷ 9 ∷ 11 ∷ []) (readNumber (Refused f))) × (readMinor (Refused f) ≡ 0) × (readLength (Refused f) ≡ 0) × (after ≡ before)
 refusal-numbers = refused-says
 
 -- another major is refused as such, whatever follows it
@@ -59,6 +60,10 @@ other-major = says-major
 -- two results can't both keep the promise
 pub one-result : {xs before : List ℕ} {a b : Read} {p q : List ℕ} → ReadSays xs before a p → ReadSays xs before b q → (a ≡ b) × (p ≡ q)
 one-result = says-once
+
+-- the layout is not empty: document 01's first sample carries its list
+pub some-chunk : Carries firstChunk This 0 firstList
+some-chunk = first-carried
 
 -- a listing's length from its counts; 1,292 bytes are enough for every accepted chunk, and are reached
 pub listing-length : (l : FicList) → length (listing l) ≡ tsBytes + enBytes * length (l .ensembles) + svBytes * length (servicesOf l)
