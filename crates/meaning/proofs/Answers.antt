@@ -62,36 +62,29 @@ carried-says {xs} {k} {m} {l} h before room =
       leaves = (λ i. listing (sym (a .list) i) ++ drop (length (listing (sym (a .list) i))) before) ∙ s .leaves;
     }
 
--- an answer that lists comes of checks that passed
-listed-passed : (xs before : List ℕ) {k : Kind} {m n : ℕ} → readAnswer xs before ≡ Listed k m n → checks xs ≡ Fine
+-- an answer that lists comes of a buffer that is long enough, and of checks that passed
+listed-facts : (xs before : List ℕ) {k : Kind} {m n : ℕ} → readAnswer xs before ≡ Listed k m n → (longestListing ≤ length before) × (checks xs ≡ Fine)
 unfolding readAnswer
-listed-passed xs before {k} {m} {n} e = go (ltb (length before) longestListing) (checks xs) e
+listed-facts xs before {k} {m} {n} e =
+    let both = go (ltb (length before) longestListing) (checks xs) e in
+    (ltb-false _ _ (both .0), both .1)
   where
-    go : (t : Bool) (v : Checked) → cond t (Refused ShortBuffer) (answerTo v xs) ≡ Listed k m n → v ≡ Fine
+    go : (t : Bool) (v : Checked) → cond t (Refused ShortBuffer) (answerTo v xs) ≡ Listed k m n → (t ≡ false) × (v ≡ Fine)
     go true v p = let z : _≡_ {A = ℕ} 0 1 = cc in absurd (omega arith)
-    go false Fine p = refl
+    go false Fine p = (refl, refl)
     go false (Fault f) p = let z : _≡_ {A = ℕ} 0 1 = cc in absurd (omega arith)
-
-listed-room : (xs before : List ℕ) {k : Kind} {m n : ℕ} → readAnswer xs before ≡ Listed k m n → longestListing ≤ length before
-unfolding readAnswer
-listed-room xs before {k} {m} {n} e = ltb-false _ _ (go (ltb (length before) longestListing) (answerTo (checks xs) xs) e)
-  where
-    go : (t : Bool) (r : Read) → cond t (Refused ShortBuffer) r ≡ Listed k m n → t ≡ false
-    go true r p = let z : _≡_ {A = ℕ} 0 1 = cc in absurd (omega arith)
-    go false r p = refl
 
 pub listed-carried : {xs before after : List ℕ} {k : Kind} {m n : ℕ} → Bytes xs → ReadSays xs before (Listed k m n) after → (l : FicList) × Carries xs k m l × (n ≡ length (listing l)) × (after ≡ listing l ++ drop n before)
 unfolding readAnswer readBuffer
 listed-carried {xs} {before} {after} {k} {m} {n} b s =
-    let fine = listed-passed xs before (sym (s .answers)) in
-    let room : longestListing ≤ length before = listed-room xs before (sym (s .answers)) in
-    let t = says-listed xs before room fine in
+    let facts = listed-facts xs before (sym (s .answers)) in
+    let t = says-listed xs before (facts .0) (facts .1) in
     let same = says-once s t in
     let kind : kindIn xs ≡ k = cc (same .0) in
     let minor : minorIn xs ≡ m = cc (same .0) in
     let size : n ≡ length (listing (listIn xs)) = cc (same .0) in (
       listIn xs,
-      accepted-carried b (record { passes = fine; kind = kind; minor = minor; list = refl }),
+      accepted-carried b (record { passes = facts .1; kind = kind; minor = minor; list = refl }),
       size,
       same .1 ∙ ap (λ (j : ℕ). listing (listIn xs) ++ drop j before) (sym size),
     )

@@ -1,6 +1,6 @@
 -- Every chunk that is accepted is one of the layout, with the list that is read: the rows are read off the bytes, and laid out they are the
 -- bytes again. Assumes nothing.
-use mathlib.Core.Path.{_≡_, refl, sym, ap, _∙_}
+use mathlib.Core.Path.{_≡_, refl, sym, ap, ap₂, _∙_}
 use mathlib.Core.List.{List, [], _∷_, _++_, map, flatMap, append-assoc}
 use Prim.Native.Nat.{ℕ, zero, suc, _+_, _*_, _/_, _%_, _≤_, _<_}
 use native.Mathlib.Nat.{div-div-eq-div-mul}
@@ -14,9 +14,9 @@ use Rattle.octets.proofs.Laws.{each-append, each-join, high-word, low-word, byt
 use Rattle.meaning.specs.declared.Kind.{Kind}
 use Rattle.meaning.specs.declared.Checked.the-variants.{Fine}
 use Rattle.meaning.specs.Sizes.{headerBytes, ensembleBytes, serviceBytes}
-use Rattle.meaning.specs.Lists.{Service, FicList}
+use Rattle.meaning.specs.Lists.{Service, Ensemble, FicList}
 use Rattle.meaning.specs.Layout.{ServiceRow, serviceFields, EnsembleRow, ensembleFields, Chunk, chunkFields, wire, serviceOf, ensembleOf, listOf, Carries}
-use Rattle.meaning.specs.Reading.{serviceAt, servicesAt, ensemblesAt, servicesIn, servicesRoom, inside, past, ensemblesChecks, majorIn, minorIn, hIn, eIn, sIn, versionIn, streamIn, countIn, payload, listIn, Accepts}
+use Rattle.meaning.specs.Reading.{serviceAt, servicesAt, ensembleAt, ensemblesAt, servicesIn, servicesRoom, inside, past, ensemblesChecks, majorIn, minorIn, hIn, eIn, sIn, versionIn, streamIn, countIn, payload, listIn, Accepts}
 use Rattle.meaning.proofs.Checks.{EnsemblePasses, ensemble-passes, HeaderPasses, header-passes}
 use Rattle.meaning.proofs.Rows.{serviceRow, serviceThird, ensembleRow, ensembleSecond, ensembleThird, chunkFirst, chunkSecond, chunkRow, wire-row}
 
@@ -133,22 +133,16 @@ unfolding ensembleRowsAt
 length-ensembles e s zero ys = refl
 length-ensembles e s (suc n) ys = ap suc (length-ensembles e s n (past e s ys))
 
+-- an ensemble with other services
+abbrev serving : Ensemble → List Service → Ensemble
+serving x vs = record { id = x .id; slt = x .slt; gat = x .gat; eat = x .eat; channel = x .channel; services = vs }
+
 ensembles-of : (e s n : ℕ) (ys : List ℕ) → map ensembleOf (ensembleRowsAt e s n ys) ≡ ensemblesAt e s n ys
 unfolding ensembleRowsAt ensembleRowAt ensemblesAt
 ensembles-of e s zero ys = refl
 ensembles-of e s (suc n) ys =
-    let services = services-of s (servicesIn e ys) (inside e ys) in
-    let rest = ensembles-of e s n (past e s ys) in
-    λ i.
-    record {
-      id = getD ys 0 0;
-      slt = getD ys 2 0 / 128;
-      gat = getD ys 2 0 / 64 % 2;
-      eat = getD ys 2 0 / 32 % 2;
-      channel = getD ys 2 0 % 32;
-      services = services i;
-    }
-    ∷ rest i
+    ap₂ (λ (vs : List Service) (es : List Ensemble). serving (ensembleAt e s ys) vs ∷ es)
+    (services-of s (servicesIn e ys) (inside e ys)) (ensembles-of e s n (past e s ys))
 
 ensemble-held : (e s : ℕ) (ys : List ℕ) → Bytes ys → Held (ensembleFields (ensembleRowAt e s ys))
 unfolding ensembleFields ensembleRowAt

@@ -13,7 +13,7 @@ returns : tie.Need-returns
 returns c = sym (checks-long (now (c .before .before .args .chunk)) (c .if1 .taken))
 
 returns-2 : tie.Need-returns-2
-returns-2 c = sym (checks-bare (now (c .before .before .before .args .chunk)) (c .if2 .taken))
+returns-2 c = sym (checks-bare (now (c .before .before .before .args .chunk)) (omega (arith, c .if2 .taken)))
 
 shared-slice-read-first : tie.Need-shared-slice-read-first
 shared-slice-read-first c = search needs

@@ -1,7 +1,7 @@
 -- `reader::check_ensembles` meets its contract. The loop's invariant: the checks on what is left, from here on, are the checks asked for.
 -- The measure is the number of ensembles left. Assumes nothing.
 use native.Mathlib.Omega.{arith}
-use Prim.Native.Nat.{_+_, _≤_}
+use Prim.Native.Nat.{_≤_}
 use mathlib.Core.Path.{_≡_, refl, sym, _∙_}
 use lib.ListN.{length, drop}
 use Rattle.meaning.specs.Reading.{ensemblesChecks}
@@ -50,7 +50,7 @@ shared-slice-read-services : tie.Need-shared-slice-read-services Inv-loop μ-loo
 shared-slice-read-services c = omega arith
 
 cast-services : tie.Need-cast-services Inv-loop μ-loop
-cast-services c = omega (arith, c .shared-slice-known2 .given (c .before .before .before .before .loop .at + (3 + c .before .before .before .before .before .args .e)))
+cast-services c = record { fits = lt-trans (c .shared-slice-known2 .given _ .fits) (lit< tt) }
 
 add-inside : tie.Need-add-inside Inv-loop μ-loop
 add-inside c = omega arith

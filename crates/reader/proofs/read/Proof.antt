@@ -10,7 +10,7 @@ use Rattle.reader.proofs.read.Statement.{statement}
 use Rattle.reader.proofs.read.Tie as tie
 
 returns : tie.Need-returns
-returns c = says-short (now (c .before .before .before .args .chunk)) (now (c .before .before .before .args .out)) (c .if1 .taken)
+returns c = says-short (now (c .before .before .before .args .chunk)) (now (c .before .before .before .args .out)) (omega (arith, c .if1 .taken))
 
 check-chunk-requires : tie.Need-check-chunk-requires
 check-chunk-requires c κs = search needs

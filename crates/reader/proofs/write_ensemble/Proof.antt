@@ -1,7 +1,8 @@
 -- `reader::write_ensemble` meets its contract: its six stores are the ensemble's record, and its services' records come after it. Assumes nothing.
 use native.Mathlib.Omega.{arith}
-use Prim.Native.Nat.{_+_}
 use mathlib.Core.Path.{sym, _∙_}
+use native.Mathlib.Nat.{lt-trans}
+use lib.Dec.{lit<}
 use lib.ListN.{length-set}
 use denote.Ref.{now}
 use Rattle.reader.proofs.Laws.{services-at, room-at, ensemble-stored}
@@ -61,7 +62,7 @@ slice-write-out-6 : tie.Need-slice-write-out-6
 slice-write-out-6 c = simp length-set (omega arith)
 
 cast-count : tie.Need-cast-count
-cast-count c = omega (arith, c .shared-slice-known4 .given (c .before .before .before .before .before .args .at + (3 + c .before .before .before .before .before .args .e)))
+cast-count c = record { fits = lt-trans (c .shared-slice-known4 .given _ .fits) (lit< tt) }
 
 add-write-services : tie.Need-add-write-services
 add-write-services c = search needs
