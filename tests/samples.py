@@ -97,4 +97,5 @@ def main():
     show("buffer of 1291, chunk of 561", FIRST + bytes(549), 1291)
 
 
-main()
+if __name__ == "__main__":
+    main()

@@ -17,7 +17,7 @@ use Rattle.meaning.specs.Reading.{check, checks, ensemblesChecks, majorI
 fault≢fine : {f : Refusal} → Fault f ≡ Fine → ⊥
 fault≢fine p = let z : _≡_ {A = ℕ} 0 1 = cc in omega arith
 
-check-passed : (b : Bool) (f : Refusal) (r : Checked) → check b f r ≡ Fine → (b ≡ false) × (r ≡ Fine)
+pub check-passed : (b : Bool) (f : Refusal) (r : Checked) → check b f r ≡ Fine → (b ≡ false) × (r ≡ Fine)
 check-passed true f r p = absurd (fault≢fine p)
 check-passed false f r p = (refl, p)
 

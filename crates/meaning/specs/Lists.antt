@@ -10,6 +10,10 @@ use Rattle.meaning.specs.declared.Kind.the-variants.{This, Next}
 abbrev pub kindOf : ℕ → Kind
 kindOf current = cond (eqb current 1) This Next
 
+abbrev pub currentOf : Kind → ℕ
+currentOf This = 1
+currentOf Next = 0
+
 -- an M/H service
 pub record Service : Type 0 where
   -- MH_service_id

@@ -1,7 +1,7 @@
 // The words that the whole project uses: the kinds, the refusals, the answers, and the sizes by name.
 
 ghost use mathlib.Core.Path.{_≡_};
-ghost use Rattle.meaning.specs.Lists.{kindOf};
+ghost use Rattle.meaning.specs.Lists.{kindOf, currentOf};
 ghost use Rattle.meaning.specs.Numbers.{numberOf};
 
 // The frame that a list is for: the one it comes in, or the one after it.
@@ -68,6 +68,16 @@ pub fn kind_of(current: u8) -> Kind
     ensures { λ r. ⌜ r ≡ kindOf current ⌝ }
 {
     if current == 1 { Kind::This } else { Kind::Next }
+}
+
+// The current_next_indicator that says a kind.
+pub fn current_of(kind: Kind) -> u8
+    ensures { λ r. ⌜ r ≡ currentOf kind ⌝ }
+{
+    match kind {
+        Kind::This => 1,
+        Kind::Next => 0,
+    }
 }
 
 // The number of a refusal.

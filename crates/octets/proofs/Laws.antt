@@ -1,5 +1,6 @@
 -- Laws of fields and bytes, each over the widths. Assumes nothing.
 use mathlib.Core.Path.{_≡_, refl, sym, ap, ap₂, _∙_}
+use mathlib.Core.Bool.{Bool, true, false}
 use mathlib.Core.List.{List, [], _∷_, _++_, flatMap, append-assoc, append-nil}
 use Prim.Native.Nat.{ℕ, zero, suc, _+_, _*_, _/_, _%_, _^_, _<_}
 use native.Mathlib.Nat.{mod-eq-of-lt, mod-one, zero-add, suc-add, add-comm}
@@ -11,6 +12,12 @@ use lib.Pow.{pow-add, mod-pow-add, shr-shr}
 use Rattle.octets.specs.Bits.{Field, field, bits, laid, number, octets, bytesOf, InWidth, Held, run, Bytes}
 use Rattle.octets.specs.Each.{Each}
 use Rattle.octets.specs.Word.{word, high, low, wordBytes}
+
+-- ---- a test goes one way or the other
+
+pub either : {P : Type 0} (t : Bool) → (t ≡ true → P) → (t ≡ false → P) → P
+either true a b = a refl
+either false a b = b refl
 
 -- ---- every element of a joined list
 

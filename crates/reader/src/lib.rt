@@ -155,8 +155,9 @@ fn write_ensembles(
     to
 }
 
-// The listing of a chunk that the checks passed, at the start of the output; its length.
-fn write_listing(chunk: &[u8], out: &mut [u8]) -> usize
+// The listing of a chunk that the checks passed, at the start of the output; its length. Internal: the desk calls it once it has seen that the
+// kind agrees (docs/DECISIONS.md, 7).
+pub fn write_listing(chunk: &[u8], out: &mut [u8]) -> usize
     requires { ⌜ (checks (now chunk) ≡ Checked.Fine) × (longestListing ≤ length (now out)) ⌝ }
     ensures { λ r. ⌜ r ≡ length (listing (listIn (now (chunk .entry)))) ⌝ }
     ensures { λ _. ⌜ now (out .exit) ≡ sets (now (out .entry)) 0 (listing (listIn (now (chunk .entry)))) ⌝ }

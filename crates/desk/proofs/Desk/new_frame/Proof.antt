@@ -1,0 +1,30 @@
+-- `desk::Desk::new_frame` meets its contract: fresh, or the frame's numbers and no bytes. Assumes nothing.
+use mathlib.Core.Path.{sym, _∙_}
+use borrow.Author.Tests.{not-true, not-false}
+use Rattle.desk.proofs.Laws.{frame-unfit, frame-fit}
+use borrow.Author.Needs.{needs}
+use Rattle.desk.proofs.Desk.new_frame.Statement.{statement}
+use Rattle.desk.proofs.Desk.new_frame.Tie as tie
+
+well-formed-requires : tie.Need-well-formed-requires
+well-formed-requires c κs = search needs
+
+fresh-requires : tie.Need-fresh-requires
+fresh-requires c κs = search needs
+
+returns : tie.Need-returns
+returns c = c .fresh .ensures ∙ frame-unfit (c .before .before .before .args .self) (sym (c .before .before .well-formed .ensures) ∙ not-true _ (c .before .if1 .taken))
+
+frame-requires : tie.Need-frame-requires
+frame-requires c κs = search needs
+
+bare-requires : tie.Need-bare-requires
+bare-requires c κs = search needs
+
+returns-2 : tie.Need-returns-2
+returns-2 c = c .bare .ensures ∙ frame-fit (c .before .before .before .before .before .args .self) _ (sym (c .before .before .before .before .well-formed .ensures) ∙ not-false _ (c .before .before .before .if1 .left)) (c .before .frame .ensures)
+
+pub new-frame-spec : {M : Type 1} → statement M
+new-frame-spec =
+    tie.close
+    (tie.spec well-formed-requires fresh-requires returns frame-requires bare-requires returns-2)

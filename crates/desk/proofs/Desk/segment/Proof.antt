@@ -1,0 +1,31 @@
+-- `desk::Desk::segment` meets its contract: 12, or what `drive` gives. Assumes nothing.
+use mathlib.Core.Path.{sym, _∙_}
+use borrow.Author.Tests.{not-true, not-false}
+use denote.Ref.{now}
+use Rattle.desk.proofs.Laws.{taken-unfit}
+use borrow.Author.Needs.{needs}
+use Rattle.desk.proofs.Desk.segment.Statement.{statement}
+use Rattle.desk.proofs.Desk.segment.Tie as tie
+
+well-formed-requires : tie.Need-well-formed-requires
+well-formed-requires c κs = search needs
+
+returns : tie.Need-returns
+returns c = taken-unfit (c .before .before .before .before .before .args .self) (now (c .before .before .before .before .before .args .seg)) (now (c .before .before .before .before .before .args .first)) (now (c .before .before .before .before .before .args .second)) (sym (c .before .well-formed .ensures) ∙ not-true _ (c .if1 .taken))
+
+drive-requires : tie.Need-drive-requires
+drive-requires c κs = sym (c .before .before .before .before .before .before .before .before .well-formed .ensures) ∙ not-false _ (c .before .before .before .before .before .before .before .if1 .left)
+
+same-length : tie.Need-same-length
+same-length c = search needs
+
+same-length-2 : tie.Need-same-length-2
+same-length-2 c = search needs
+
+returns-2 : tie.Need-returns-2
+returns-2 c = search needs
+
+pub segment-spec : {M : Type 1} → statement M
+segment-spec =
+    tie.close
+    (tie.spec well-formed-requires returns drive-requires same-length same-length-2 returns-2)

@@ -1,0 +1,137 @@
+-- What is shown after a new gathering, a new frame and a segment. Assumes nothing.
+use mathlib.Core.Path.{_≡_, refl, sym, ap, _∙_, subst}
+use mathlib.Core.Bool.{Bool, true, false, cond, not, _&&_, _||_, true≢false}
+use mathlib.Core.List.{List, []}
+use Prim.Native.Nat.{ℕ, _≤_}
+use native.Mathlib.Omega.{arith}
+use borrow.Author.Tests.{le-ltb}
+use lib.ListN.{length, take}
+use Rattle.octets.proofs.Laws.{either}
+use Rattle.meaning.specs.declared.Kind.{Kind}
+use Rattle.meaning.specs.declared.Kind.the-variants.{This, Next}
+use Rattle.meaning.specs.Sizes.{longestListing}
+use Rattle.slots.specs.declared.Answer.{Answer}
+use Rattle.slots.specs.declared.Answer.the-variants.{Listed}
+use Rattle.slots.specs.Segment.{segmentKind}
+use Rattle.desk.specs.declared.Marks.{Marks}
+use Rattle.desk.specs.declared.Desk.{Desk}
+use Rattle.desk.specs.Desks.{emptied, fresh, wellFormed, lengthFor, otherKind, newGathering, newFrame, lentFor, tooShort, After, lengthAfter, segmentAfter, shownLength, shown}
+use Rattle.desk.proofs.Keeps.{length-small, gathering-good, gathering-bad, gathering-fits, frame-good, frame-bad, frame-fits, Ready, Part, Says, both-long, lengthFor-small, lent-room, takes-ready, segment-cases}
+
+-- ---- how much is shown: nothing, or the listing's length where the desk is well formed and both buffers are long enough
+
+module _ (k : Kind) (d : Desk) (first second : List ℕ) where
+  length-cases : (P : ℕ → Type 0) → P 0 → (Ready d first second → P (lengthFor k (d .marks))) → P (shownLength k d first second)
+  unfolding shownLength
+  length-cases P none ready =
+      either (wellFormed d)
+      (λ w.
+      either (tooShort first || tooShort second) (λ s. simp (w, s) none)
+      (λ s.
+      let l = both-long first second s in
+      simp (w, s) (ready (record { formed = w; left = l .0; right = l .1 }))))
+      (λ w. simp w none)
+
+  pub shown-small : shownLength k d first second ≤ longestListing
+  shown-small = length-cases (λ n. n ≤ longestListing) (omega arith) (λ y. lengthFor-small k d (y .formed))
+
+  pub shown-fits : shownLength k d first second ≤ length (lentFor k (d .marks .swapped) first second)
+  shown-fits =
+      length-cases (λ n. n ≤ length (lentFor k (d .marks .swapped) first second)) (omega arith)
+      (λ y. omega (arith, lengthFor-small k d (y .formed), lent-room k (d .marks .swapped) first second (y .left) (y .right)))
+
+  shown-ready : {t : Bool} → Ready d first second → d .marks .swapped ≡ t → shown k d first second ≡ take (lengthFor k (d .marks)) (lentFor k t first second)
+  unfolding shown shownLength
+  shown-ready y e =
+      simp (y .formed, le-ltb _ _ (y .left), le-ltb _ _ (y .right))
+      (ap (λ (t : Bool). take (lengthFor k (d .marks)) (lentFor k t first second)) e)
+
+  shown-none : (wellFormed d ≡ true → lengthFor k (d .marks) ≡ 0) → shown k d first second ≡ []
+  unfolding shown
+  shown-none e =
+      length-cases (λ n. take n (lentFor k (d .marks .swapped) first second) ≡ []) refl
+      (λ y. ap (λ (n : ℕ). take n (lentFor k (d .marks .swapped) first second)) (e (y .formed)))
+
+  shown-bad : wellFormed d ≡ false → shown k d first second ≡ []
+  shown-bad w = shown-none (λ e. absurd (true≢false (sym e ∙ w)))
+
+shown-fresh : (k : Kind) (first second : List ℕ) → shown k fresh first second ≡ []
+shown-fresh This first second = shown-none This fresh first second (λ e. refl)
+shown-fresh Next first second = shown-none Next fresh first second (λ e. refl)
+
+-- a well formed desk e shows as k what any desk d shows as j, if it has that length and that buffer, or is fresh where d is not well formed
+shown-alike : (k j : Kind) (e d : Desk) (first second : List ℕ) → wellFormed e ≡ true → (wellFormed d ≡ true → (lengthFor k (e .marks) ≡ lengthFor j (d .marks)) × (lentFor k (e .marks .swapped) first second ≡ lentFor j (d .marks .swapped) first second)) → (wellFormed d ≡ false → e ≡ fresh) → shown k e first second ≡ shown j d first second
+unfolding shown shownLength
+shown-alike k j e d first second v good bad =
+    either (wellFormed d)
+    (λ w i. take (cond ((v ∙ sym w) i && not (tooShort first || tooShort second)) (good w .0 i) 0) (good w .1 i))
+    (λ w. ap (λ (x : Desk). shown k x first second) (bad w) ∙ shown-fresh k first second ∙ sym (shown-bad j d first second w))
+
+-- ---- new gathering and new frame
+
+emptied-length : (k : Kind) (m : Marks) → lengthFor k (emptied (m .shown) (m .coming) (m .swapped) .marks) ≡ lengthFor k m
+emptied-length This m = refl
+emptied-length Next m = refl
+
+pub gathering-shows : (k : Kind) (d : Desk) (first second : List ℕ) → shown k (newGathering d) first second ≡ shown k d first second
+gathering-shows k d first second =
+    shown-alike k k (newGathering d) d first second (gathering-fits d) (λ w. rw (gathering-good d w) (emptied-length k (d .marks), refl)) (gathering-bad d)
+
+lent-frame : {A : Type 0} (t : Bool) (x y : A) → lentFor This (not t) x y ≡ lentFor Next t x y
+lent-frame true x y = refl
+lent-frame false x y = refl
+
+pub frame-place : {A : Type 0} (d : Desk) → wellFormed d ≡ true → (x y : A) → lentFor This (newFrame d .marks .swapped) x y ≡ lentFor Next (d .marks .swapped) x y
+frame-place d w x y = rw (frame-good d w) (lent-frame (d .marks .swapped) x y)
+
+module _ (d : Desk) (first second : List ℕ) where
+  pub frame-shows : shown This (newFrame d) first second ≡ shown Next d first second
+  frame-shows =
+      shown-alike This Next (newFrame d) d first second (frame-fits d) (λ w. (rw (frame-good d w), frame-place d w first second)) (frame-bad d)
+
+  pub frame-next : shown Next (newFrame d) first second ≡ []
+  frame-next =
+      shown-none Next (newFrame d) first second (λ e. either (wellFormed d) (λ w. rw (frame-good d w)) (λ w. rw (frame-bad d w)))
+
+pub frame-twice : (d : Desk) (first second : List ℕ) → shown This (newFrame (newFrame d)) first second ≡ []
+frame-twice d first second = frame-shows (newFrame d) first second ∙ frame-next d first second
+
+-- ---- a segment
+
+module _ (d : Desk) (xs first second : List ℕ) where
+  -- what the other kind has is shown as before
+  pub other-shown : let r = segmentAfter d xs first second in let j = otherKind (segmentKind xs) in shown j (r .desk) (r .first) (r .second) ≡ shown j d first second
+  other-shown =
+      let j : Kind = otherKind (segmentKind xs) in
+      segment-cases d xs first second (λ r. shown j (r .desk) (r .first) (r .second) ≡ shown j d first second) (λ f b. refl)
+      (λ y r h.
+      shown-ready j (r .desk) (r .first) (r .second) (takes-ready h y) (h .swapped)
+      ∙ ap (λ (p : Part). take (p .size) (p .side .buffer)) (h .other)
+      ∙ sym (shown-ready j d first second y refl))
+
+  pub next-hidden : segmentKind xs ≡ Next → let r = segmentAfter d xs first second in shown This (r .desk) (r .first) (r .second) ≡ shown This d first second
+  next-hidden e =
+      let r : After = segmentAfter d xs first second in
+      subst (λ (k : Kind). shown (otherKind k) (r .desk) (r .first) (r .second) ≡ shown (otherKind k) d first second) e other-shown
+
+  -- what a segment's answer lists is of its kind, and is shown
+  pub listed-shown : (k : Kind) (n : ℕ) → let r = segmentAfter d xs first second in r .answer ≡ Listed k n → (k ≡ segmentKind xs) × (n ≤ length (lentFor k (d .marks .swapped) (r .first) (r .second))) × (r .desk .marks .swapped ≡ d .marks .swapped) × (n ≤ longestListing) × (shown k (r .desk) (r .first) (r .second) ≡ take n (lentFor k (d .marks .swapped) (r .first) (r .second)))
+  listed-shown k n =
+      let t : Bool = d .marks .swapped in
+      let own : Kind = segmentKind xs in
+      segment-cases d xs first second
+      (λ r. r .answer ≡ Listed k n → (k ≡ own) × (n ≤ length (lentFor k t (r .first) (r .second))) × (r .desk .marks .swapped ≡ t) × (n ≤ longestListing) × (shown k (r .desk) (r .first) (r .second) ≡ take n (lentFor k t (r .first) (r .second))))
+      (λ f b e. let z : _≡_ {A = ℕ} 0 1 = cc in absurd (omega arith))
+      (λ y r h e.
+      let s : Says own (Listed k n) = subst (Says own) e (h .says) in
+      let z = takes-ready h y in
+      let small = length-small n (s .1) in
+      let size : lengthFor own (r .desk .marks) ≡ n = h .size ∙ ap (λ (a : Answer). lengthAfter a (lengthFor own (d .marks))) e in
+      rw (s .0) (
+        refl,
+        omega (arith, lent-room own t (r .first) (r .second) (z .left) (z .right)),
+        h .swapped,
+        small,
+        shown-ready own (r .desk) (r .first) (r .second) z (h .swapped)
+        ∙ ap (λ (m : ℕ). take m (lentFor own t (r .first) (r .second))) size,
+      ))

@@ -1,0 +1,361 @@
+// The desk: a slot for each kind, the lengths of the two listings, and which of the two lent buffers serves this frame.
+use meaning::Checked;
+use meaning::Kind;
+use meaning::LONGEST_CHUNK;
+use meaning::LONGEST_LISTING;
+use meaning::Refusal;
+use meaning::TS_RECORD;
+use slots::Answer;
+use slots::Slot;
+ghost use mathlib.Core.Path.{_≡_};
+ghost use mathlib.Core.Bool.{Bool, true, false, not};
+ghost use Prim.Native.Nat.{_≤_};
+ghost use lib.ListN.{length, take};
+ghost use lib.ListN.{length as List·length};
+ghost use denote.Ref.{ptr};
+ghost use Rattle.meaning.specs.Sizes.{longestListing};
+ghost use Rattle.slots.specs.Segment.{segmentChecks, segmentKind};
+ghost use Rattle.desk.specs.Desks.{desk as Desks·desk, emptied as Desks·emptied, fresh as Desks·fresh, lengthFits, wellFormed, newGathering, newFrame, after, segmentAfter, byRole, lengthAfter, lentFor, shownLength, shown as Desks·shown};
+ghost use Rattle.slots.specs.Slots.{emptySlot, noBytes, slotFits};
+
+// The desk's numbers: the slots, the lengths of the listings for this frame and for the next (0 is none), and whether the second buffer
+// serves this frame.
+pub struct Marks {
+    pub this: Slot,
+    pub next: Slot,
+    pub shown: usize,
+    pub coming: usize,
+    pub swapped: bool,
+}
+
+// The desk: its numbers, and the bytes of the two slots.
+pub struct Desk {
+    pub marks: Marks,
+    pub this: [u8; 560],
+    pub next: [u8; 560],
+}
+
+// An answer to a segment, with the desk afterwards.
+pub struct Taken {
+    pub answer: Answer,
+    pub desk: Desk,
+}
+
+// The same, with the desk's numbers only: its bytes were changed in place.
+pub struct Driven {
+    pub answer: Answer,
+    pub marks: Marks,
+}
+
+// An empty slot.
+fn empty() -> Slot
+    ensures { λ r. ⌜ r ≡ emptySlot ⌝ }
+{
+    Slot {
+        last: 0,
+        held: 0,
+        spoiled: false,
+    }
+}
+
+impl Marks {
+    // Empty slots and these listings.
+    fn emptied(shown: usize, coming: usize, swapped: bool) -> Marks
+        ensures { λ r. ⌜ r ≡ Desks·emptied shown coming swapped .marks ⌝ }
+    {
+        let this = empty();
+        let next = empty();
+        Marks {
+            this: this,
+            next: next,
+            shown: shown,
+            coming: coming,
+            swapped: swapped,
+        }
+    }
+
+    // The numbers of a well formed desk in a new gathering. Internal.
+    pub fn gathering(self) -> Marks
+        ensures { λ r. ⌜ r ≡ Desks·emptied (self .shown) (self .coming) (self .swapped) .marks ⌝ }
+    {
+        Marks::emptied(self.shown, self.coming, self.swapped)
+    }
+
+    // The numbers of a well formed desk in a new frame. Internal.
+    pub fn frame(self) -> Marks
+        ensures { λ r. ⌜ r ≡ Desks·emptied (self .coming) 0 (not (self .swapped)) .marks ⌝ }
+    {
+        Marks::emptied(self.coming, 0, !self.swapped)
+    }
+}
+
+// A length of a listing: 0, or 5 to 1,292.
+fn length_fits(n: usize) -> bool
+    ensures { λ r. ⌜ r ≡ lengthFits n ⌝ }
+{
+    if n == 0 {
+        return true;
+    }
+    if n < TS_RECORD {
+        return false;
+    }
+    n <= LONGEST_LISTING
+}
+
+// Whether a desk is well formed.
+fn fits(marks: Marks, this: &[u8; 560], next: &[u8; 560]) -> bool
+    ensures { λ r. ⌜ r ≡ wellFormed (Desks·desk marks (now (this .entry)) (now (next .entry))) ⌝ }
+{
+    let mine = marks.this;
+    let other = marks.next;
+    if !length_fits(marks.shown) {
+        return false;
+    }
+    if !length_fits(marks.coming) {
+        return false;
+    }
+    if !slots::slot_fits(mine, this) {
+        return false;
+    }
+    slots::slot_fits(other, next)
+}
+
+// The length of a kind's listing, once a segment of that kind was answered.
+fn length_after(answer: Answer, before: usize) -> usize
+    ensures { λ r. ⌜ r ≡ lengthAfter answer before ⌝ }
+{
+    match answer {
+        Answer::Listed { kind: _, length } => length,
+        Answer::Missing(_) => before,
+        Answer::Refused(_) => before,
+    }
+}
+
+// A segment that passed the checks on itself, with the buffers by their roles.
+fn steer(
+    marks: Marks,
+    this: &mut [u8; 560],
+    next: &mut [u8; 560],
+    seg: &[u8],
+    shown: &mut [u8],
+    coming: &mut [u8],
+) -> Driven
+    requires { ⌜ (slotFits (marks .this) (now this) ≡ true) × (slotFits (marks .next) (now next) ≡ true) × (segmentChecks (now seg) ≡ Checked.Fine) ⌝ }
+    requires { ⌜ (longestListing ≤ length (now shown)) × (longestListing ≤ length (now coming)) ⌝ }
+    ensures { λ r. ⌜ after (r .answer) (Desks·desk (r .marks) (now (this .exit)) (now (next .exit))) (now (shown .exit)) (now (coming .exit)) ≡ byRole (segmentKind (now (seg .entry))) (Desks·desk marks (now (this .entry)) (now (next .entry))) (now (seg .entry)) (now (shown .entry)) (now (coming .entry)) ⌝ }
+{
+    let mine = marks.this;
+    let other = marks.next;
+    match meaning::kind_of(seg[0] / 2 % 2) {
+        Kind::This => {
+            let g = slots::gather(Kind::This, mine, this, seg, shown);
+            let answer = g.answer;
+            let slot = g.slot;
+            Driven {
+                answer: answer,
+                marks: Marks {
+                    this: slot,
+                    next: other,
+                    shown: length_after(answer, marks.shown),
+                    coming: marks.coming,
+                    swapped: marks.swapped,
+                },
+            }
+        }
+        Kind::Next => {
+            let g = slots::gather(Kind::Next, other, next, seg, coming);
+            let answer = g.answer;
+            let slot = g.slot;
+            Driven {
+                answer: answer,
+                marks: Marks {
+                    this: mine,
+                    next: slot,
+                    shown: marks.shown,
+                    coming: length_after(answer, marks.coming),
+                    swapped: marks.swapped,
+                },
+            }
+        }
+    }
+}
+
+// The refusal of a short buffer.
+fn short(marks: Marks) -> Driven
+    ensures { λ r. ⌜ (r .answer ≡ Answer.Refused Refusal.ShortBuffer) × (r .marks ≡ marks) ⌝ }
+{
+    Driven {
+        answer: Answer::Refused(Refusal::ShortBuffer),
+        marks: marks,
+    }
+}
+
+// A segment comes to a well formed desk whose bytes are lent in place. Internal: for callers that make many calls.
+pub fn drive(
+    marks: Marks,
+    this: &mut [u8; 560],
+    next: &mut [u8; 560],
+    seg: &[u8],
+    first: &mut [u8],
+    second: &mut [u8],
+) -> Driven
+    requires { ⌜ wellFormed (Desks·desk marks (now this) (now next)) ≡ true ⌝ }
+    ensures { λ r. ⌜ after (r .answer) (Desks·desk (r .marks) (now (this .exit)) (now (next .exit))) (now (first .exit)) (now (second .exit)) ≡ segmentAfter (Desks·desk marks (now (this .entry)) (now (next .entry))) (now (seg .entry)) (now (first .entry)) (now (second .entry)) ⌝ }
+{
+    if first.len() < LONGEST_LISTING {
+        return short(marks);
+    }
+    if second.len() < LONGEST_LISTING {
+        return short(marks);
+    }
+    match slots::check_segment(seg) {
+        Checked::Fault(refusal) => Driven {
+            answer: Answer::Refused(refusal),
+            marks: marks,
+        },
+        Checked::Fine => {
+            if marks.swapped {
+                steer(marks, this, next, seg, second, first)
+            } else {
+                steer(marks, this, next, seg, first, second)
+            }
+        }
+    }
+}
+
+impl Desk {
+    // Empty slots, no listing, and the first buffer for this frame.
+    pub fn fresh() -> Desk
+        ensures { λ r. ⌜ r ≡ Desks·fresh ⌝ }
+    {
+        let marks = Marks::emptied(0, 0, false);
+        Desk::bare(marks)
+    }
+
+    // These numbers, and no bytes.
+    fn bare(marks: Marks) -> Desk
+        ensures { λ r. ⌜ r ≡ Desks·desk marks noBytes noBytes ⌝ }
+    {
+        Desk {
+            marks: marks,
+            this: [0u8; LONGEST_CHUNK],
+            next: [0u8; LONGEST_CHUNK],
+        }
+    }
+
+    fn well_formed(self) -> bool
+        ensures { λ r. ⌜ r ≡ wellFormed self ⌝ }
+    {
+        let marks = self.marks;
+        let this = self.this;
+        let next = self.next;
+        fits(marks, &this, &next)
+    }
+
+    // Empties both slots.
+    pub fn new_gathering(self) -> Desk
+        ensures { λ r. ⌜ r ≡ newGathering self ⌝ }
+    {
+        if !self.well_formed() {
+            return Desk::fresh();
+        }
+        let marks = self.marks;
+        Desk::bare(marks.gathering())
+    }
+
+    // Empties both slots; the next frame's listing becomes this frame's, and the buffers change roles.
+    pub fn new_frame(self) -> Desk
+        ensures { λ r. ⌜ r ≡ newFrame self ⌝ }
+    {
+        if !self.well_formed() {
+            return Desk::fresh();
+        }
+        let marks = self.marks;
+        Desk::bare(marks.frame())
+    }
+
+    // A segment goes to its kind's slot.
+    pub fn segment(self, seg: &[u8], first: &mut [u8], second: &mut [u8]) -> Taken
+        ensures { λ r. ⌜ after (r .answer) (r .desk) (now (first .exit)) (now (second .exit)) ≡ segmentAfter self (now (seg .entry)) (now (first .entry)) (now (second .entry)) ⌝ }
+    {
+        if !self.well_formed() {
+            return Taken {
+                answer: Answer::Refused(Refusal::BadDesk),
+                desk: self,
+            };
+        }
+        let marks = self.marks;
+        let mut this = self.this;
+        let mut next = self.next;
+        let driven = drive(marks, &mut this, &mut next, seg, first, second);
+        let answer = driven.answer;
+        let left = driven.marks;
+        Taken {
+            answer: answer,
+            desk: Desk {
+                marks: left,
+                this: this,
+                next: next,
+            },
+        }
+    }
+
+    // How much of a buffer is shown.
+    fn shown_length(self, kind: Kind, first: &[u8], second: &[u8]) -> usize
+        ensures { λ r. ⌜ r ≡ shownLength kind self (now (first .entry)) (now (second .entry)) ⌝ }
+    {
+        if !self.well_formed() {
+            return 0;
+        }
+        if first.len() < LONGEST_LISTING {
+            return 0;
+        }
+        if second.len() < LONGEST_LISTING {
+            return 0;
+        }
+        let marks = self.marks;
+        match kind {
+            Kind::This => marks.shown,
+            Kind::Next => marks.coming,
+        }
+    }
+
+    // The part of one of the two buffers that holds the listing for this frame or the next.
+    pub fn show<'a>(self, kind: Kind, first: &'a [u8], second: &'a [u8]) -> &'a [u8]
+        ensures { λ r. ⌜ now r ≡ Desks·shown kind self (now (first .entry)) (now (second .entry)) ⌝ }
+        ensures { λ r. ⌜ ptr r ≡ lentFor kind (self .marks .swapped) (ptr (first .entry)) (ptr (second .entry)) ⌝ }
+    {
+        let marks = self.marks;
+        let length = self.shown_length(kind, first, second);
+        part(kind, marks.swapped, length, first, second)
+    }
+}
+
+// Whether the second buffer serves this frame or the next.
+fn second_serves(kind: Kind, swapped: bool) -> bool
+    ensures { λ r. ⌜ r ≡ lentFor kind swapped false true ⌝ }
+{
+    match kind {
+        Kind::This => swapped,
+        Kind::Next => !swapped,
+    }
+}
+
+// The first bytes of the buffer that serves this frame or the next. Internal.
+pub fn part<'a>(
+    kind: Kind,
+    swapped: bool,
+    length: usize,
+    first: &'a [u8],
+    second: &'a [u8],
+) -> &'a [u8]
+    requires { ⌜ length ≤ List·length (lentFor kind swapped (now first) (now second)) ⌝ }
+    ensures { λ r. ⌜ now r ≡ take length (lentFor kind swapped (now (first .entry)) (now (second .entry))) ⌝ }
+    ensures { λ r. ⌜ ptr r ≡ lentFor kind swapped (ptr (first .entry)) (ptr (second .entry)) ⌝ }
+{
+    if second_serves(kind, swapped) {
+        &second[..length]
+    } else {
+        &first[..length]
+    }
+}

@@ -1,0 +1,4 @@
+pub mod Bits
+pub mod Keeps
+pub mod Laws
+pub mod Leaves

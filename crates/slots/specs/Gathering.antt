@@ -1,0 +1,95 @@
+-- Document 01, "The desk" and "The numbers": what a segment does that passed the checks on itself, in the slot of its kind. Only that slot, its
+-- bytes and the lent buffer of that kind are at hand here.
+use Prim.Native.Nat.{ℕ, _+_, _*_, _%_}
+use mathlib.Core.Path.{_≡_}
+use mathlib.Core.Bool.{cond, not}
+use mathlib.Core.List.{List, _++_}
+use lib.Dec.{eqb}
+use lib.ListN.{length, getD, take, drop}
+use lib.Seq.{sets}
+use Rattle.meaning.specs.declared.Kind.{Kind}
+use Rattle.meaning.specs.declared.Refusal.{Refusal}
+use Rattle.meaning.specs.declared.Refusal.the-variants.{Clash, KindDiffers}
+use Rattle.meaning.specs.declared.Checked.{Checked}
+use Rattle.meaning.specs.declared.Checked.the-variants.{Fine, Fault}
+use Rattle.meaning.specs.Numbers.{numberOf}
+use Rattle.meaning.specs.Lists.{currentOf}
+use Rattle.meaning.specs.Listing.{listing}
+use Rattle.meaning.specs.Reading.{check, checks, listIn}
+use Rattle.slots.specs.declared.Slot.{Slot}
+use Rattle.slots.specs.declared.Answer.{Answer}
+use Rattle.slots.specs.declared.Answer.the-variants.{Missing, Listed, Refused}
+use Rattle.slots.specs.Segment.{payloadBytes, numberIn, payloadIn}
+use Rattle.slots.specs.Slots.{noBytes, holds, spoiledSlot, missingIn, clashing, holding}
+
+-- ---- an answer in document 01's numbers: its number, 0 where it is no refusal; how many are missing, and how long the listing is, 0 where it
+-- does not say
+
+abbrev pub answerNumber : Answer → ℕ
+answerNumber (Missing n) = 0
+answerNumber (Listed k n) = 0
+answerNumber (Refused f) = numberOf f
+
+abbrev pub answerMissing : Answer → ℕ
+answerMissing (Missing n) = n
+answerMissing (Listed k n) = 0
+answerMissing (Refused f) = 0
+
+abbrev pub answerLength : Answer → ℕ
+answerLength (Missing n) = 0
+answerLength (Listed k n) = n
+answerLength (Refused f) = 0
+
+-- ---- a slot, its bytes, and the buffer of its kind; an answer, and what is left
+
+pub record Side : Type 0 where
+  pub slot : Slot
+  pub bytes : List ℕ
+  pub buffer : List ℕ
+
+pub record Outcome : Type 0 where
+  pub answer : Answer
+  pub side : Side
+
+abbrev pub side : Slot → List ℕ → List ℕ → Side
+side s bytes buffer = record { slot = s; bytes = bytes; buffer = buffer }
+
+abbrev pub outcome : Answer → Side → Outcome
+outcome a s = record { answer = a; side = s }
+
+-- a spoiled slot; a slot with the segment xs held besides
+abbrev pub spoil : Side → Side
+spoil s = side spoiledSlot noBytes (s .buffer)
+
+abbrev pub hold : List ℕ → Side → Side
+hold xs s = side (holding (s .slot) xs) (sets (s .bytes) (payloadBytes * numberIn xs) (payloadIn xs)) (s .buffer)
+
+-- ---- a complete slot: its chunk of 35 x (last + 1) bytes, the reader's checks on it, then whether its current_next is its segments'
+
+abbrev pub chunkIn : Side → List ℕ
+chunkIn s = take (payloadBytes * (s .slot .last + 1)) (s .bytes)
+
+abbrev pub kindChecks : Checked → Kind → List ℕ → Checked
+kindChecks (Fault f) k xs = Fault f
+kindChecks Fine k xs = check (not (eqb (getD xs 1 0 % 2) (currentOf k))) KindDiffers Fine  -- 10
+
+-- a refused chunk changes no listing; the listing of any other goes to the start of the buffer, and bytes past it stay
+abbrev pub judged : Checked → Kind → Side → Outcome
+judged (Fault f) k s = outcome (Refused f) s
+judged Fine k s =
+    let l = listing (listIn (chunkIn s)) in
+    outcome (Listed k (length l)) (side (s .slot) (s .bytes) (l ++ drop (length l) (s .buffer)))
+
+unfoldable pub completed : Kind → Side → Outcome
+completed k s = judged (kindChecks (checks (chunkIn s)) k (chunkIn s)) k s
+
+-- ---- the segment xs of the kind k: a clash, a repeat, or one more; the last missing one completes the slot
+
+abbrev pub placed : Kind → Side → Outcome
+placed k s = cond (eqb (missingIn (s .slot)) 0) (completed k s) (outcome (Missing (missingIn (s .slot))) s)
+
+unfoldable pub gathered : Kind → List ℕ → Side → Outcome
+gathered k xs s =
+    cond (clashing (s .slot) (s .bytes) xs) (outcome (Refused Clash) (spoil s))  -- 7
+    (cond (holds (s .slot .held) (numberIn xs)) (outcome (Missing (missingIn (s .slot))) s)
+    (placed k (hold xs s)))

@@ -1,0 +1,4 @@
+pub mod Segment
+pub mod Slots
+pub mod Words
+pub mod Gathering

@@ -1,0 +1,81 @@
+-- Document 01, "The desk": a slot and its bytes, 16 places of 35. Which places are held is a set of 16 bits.
+use Prim.Native.Nat.{ℕ, zero, suc, _+_, _-_, _*_, _/_, _%_, _^_}
+use mathlib.Core.Bool.{Bool, true, false, cond, not, _&&_, _||_}
+use mathlib.Core.List.{List, [], _∷_}
+use lib.Dec.{eqb, leb, ltb}
+use lib.ListN.{length, take, drop, replicate}
+use lib.Count.{ones}
+use Rattle.meaning.specs.Sizes.{longestChunk}
+use Rattle.slots.specs.declared.Slot.{Slot}
+use Rattle.slots.specs.Segment.{payloadBytes, mostSegments, numberIn, lastIn, payloadIn}
+
+abbrev pub zeros : ℕ → List ℕ
+zeros n = replicate n 0
+
+-- whether two byte strings are equal
+abbrev pub same : List ℕ → List ℕ → Bool
+same [] [] = true
+same [] (y ∷ ys) = false
+same (x ∷ xs) [] = false
+same (x ∷ xs) (y ∷ ys) = eqb x y && same xs ys
+
+-- whether every number below n passes a test
+abbrev pub allBelow : ℕ → (ℕ → Bool) → Bool
+allBelow zero test = true
+allBelow (suc n) test = test n && allBelow n test
+
+-- ---- places
+
+-- the bytes of the place i
+abbrev pub placeOf : List ℕ → ℕ → List ℕ
+placeOf bytes i = take payloadBytes (drop (payloadBytes * i) bytes)
+
+-- whether the place i is in the set of held places
+abbrev pub holds : ℕ → ℕ → Bool
+holds held i = eqb (held / 2 ^ i % 2) 1
+
+-- the set with the place i besides
+abbrev pub including : ℕ → ℕ → ℕ
+including held i = held + 2 ^ i
+
+-- ---- slots
+
+abbrev pub emptySlot : Slot
+emptySlot = record { last = 0; held = 0; spoiled = false }
+
+abbrev pub spoiledSlot : Slot
+spoiledSlot = record { last = 0; held = 0; spoiled = true }
+
+abbrev pub noBytes : List ℕ
+noBytes = zeros longestChunk
+
+-- how many segments are still missing: last + 1 less the number held
+abbrev pub missingIn : Slot → ℕ
+missingIn s = s .last + 1 - ones (s .held)
+
+-- the slot is empty or spoiled, or has a last number of at most 15 and holds at least one segment and none above the last
+abbrev pub numbersFit : Slot → Bool
+numbersFit s =
+    cond (eqb (s .held) 0) (eqb (s .last) 0)
+    (not (s .spoiled) && (ltb (s .last) mostSegments && ltb (s .held) (2 ^ (s .last + 1))))
+
+-- every place not held is all zeros; so an empty or spoiled slot holds zeros only
+abbrev pub bytesFit : ℕ → List ℕ → Bool
+bytesFit held bytes = allBelow mostSegments (λ i. holds held i || same (placeOf bytes i) (zeros payloadBytes))
+
+-- a slot is well formed; that it has 560 bytes is so by its type
+unfoldable pub slotFits : Slot → List ℕ → Bool
+slotFits s bytes = eqb (length bytes) longestChunk && (numbersFit s && bytesFit (s .held) bytes)
+
+-- ---- a segment xs comes to a slot
+
+-- the slot is spoiled, or its last number differs, or the place is held with other payload
+unfoldable pub clashing : Slot → List ℕ → List ℕ → Bool
+clashing s bytes xs =
+    s .spoiled
+    || (not (eqb (s .held) 0) && not (eqb (s .last) (lastIn xs))
+    || holds (s .held) (numberIn xs) && not (same (placeOf bytes (numberIn xs)) (payloadIn xs)))
+
+-- the slot with the segment held besides
+abbrev pub holding : Slot → List ℕ → Slot
+holding s xs = record { last = lastIn xs; held = including (s .held) (numberIn xs); spoiled = false }
