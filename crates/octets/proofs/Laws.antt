@@ -3,11 +3,11 @@ use mathlib.Core.Path.{_≡_, refl, sym, ap, ap₂, _∙_}
 use mathlib.Core.Bool.{Bool, true, false}
 use mathlib.Core.List.{List, [], _∷_, _++_, flatMap, append-assoc, append-nil}
 use Prim.Native.Nat.{ℕ, zero, suc, _+_, _*_, _/_, _%_, _^_, _<_}
-use native.Mathlib.Nat.{mod-eq-of-lt, mod-one, zero-add, suc-add, add-comm}
+use native.Mathlib.Nat.{mod-eq-of-lt, mod-one, add-zero, zero-add, suc-add, add-comm}
 use native.Mathlib.Numerals.{one-add}
 use native.Mathlib.Omega.{arith}
 use lib.ListN.{length, getD, take, drop, length-append}
-use lib.Seq.{take-at, drop-at}
+use lib.Seq.{take-at, drop-at, getD-drop}
 use lib.Pow.{pow-add, mod-pow-add, shr-shr}
 use Rattle.octets.specs.Bits.{Field, field, bits, laid, number, octets, bytesOf, InWidth, Held, run, Bytes}
 use Rattle.octets.specs.Each.{Each}
@@ -49,6 +49,13 @@ low-word a b h = omega arith
 
 pub word-high-low : (w : ℕ) → word (high w) (low w) ≡ w
 word-high-low w = omega arith
+
+-- at a place of a list
+pub getD-there : (xs : List ℕ) (at : ℕ) → getD (drop at xs) 0 0 ≡ getD xs at 0
+getD-there xs at = getD-drop at xs 0 0 ∙ ap (λ (k : ℕ). getD xs k 0) (add-zero at)
+
+pub word-there : (xs : List ℕ) (at : ℕ) → word (getD (drop at xs) 0 0) (getD (drop at xs) 1 0) ≡ word (getD xs at 0) (getD xs (at + 1) 0)
+word-there xs at = ap₂ word (getD-there xs at) (getD-drop at xs 1 0)
 
 -- ---- bits
 

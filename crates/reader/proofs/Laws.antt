@@ -2,11 +2,12 @@
 use mathlib.Core.Path.{_≡_, refl, sym, ap, ap₂, _∙_}
 use mathlib.Core.List.{List, [], _∷_, _++_, flatMap}
 use Prim.Native.Nat.{ℕ, zero, suc, _+_, _-_, _*_, _/_, _%_, _≤_, _<_}
-use native.Mathlib.Nat.{mul-le-mul, add-zero, zero-add, add-assoc, div-div-eq-div-mul}
+use native.Mathlib.Nat.{mul-le-mul, zero-add, add-assoc, div-div-eq-div-mul}
 use native.Mathlib.Omega.{arith}
 use borrow.Author.Tests.{lt-ltb, le-ltb, eq-eqb, ne-eqb}
 use lib.ListN.{length, getD, drop, set, length-append, length-drop}
 use lib.Seq.{getD-drop, drop-drop, sets, sets-eq}
+use Rattle.octets.proofs.Laws.{getD-there, word-there}
 use Rattle.octets.proofs.Stores.{stores, stored, sets-append}
 use Rattle.octets.specs.Word.{word, high, low}
 use Rattle.meaning.specs.declared.Refusal.the-variants.{EndsEarly, OtherVersion}
@@ -76,12 +77,6 @@ module _ (xs : List ℕ) (at e s : ℕ) where
       rw one (simp (drop-drop, length-drop, le-ltb _ _ h, version-at, eq-eqb _ _ v, room-at, le-ltb _ _ r))
 
 -- ---- the records, as the code stores their bytes
-
-getD-there : (xs : List ℕ) (at : ℕ) → getD (drop at xs) 0 0 ≡ getD xs at 0
-getD-there xs at = getD-drop at xs 0 0 ∙ ap (λ (k : ℕ). getD xs k 0) (add-zero at)
-
-word-there : (xs : List ℕ) (at : ℕ) → word (getD (drop at xs) 0 0) (getD (drop at xs) 1 0) ≡ word (getD xs at 0) (getD xs (at + 1) 0)
-word-there xs at = ap₂ word (getD-there xs at) (getD-drop at xs 1 0)
 
 pub service-stored : (xs l : List ℕ) (at to w hi lo : ℕ) → w ≡ word (getD xs at 0) (getD xs (at + 1) 0) → hi ≡ high w → lo ≡ low w → let third = getD xs (at + 2) 0 in stores (set l to 0x53) to 1 (0x56 ∷ hi ∷ lo ∷ third / 8 % 4 ∷ third / 2 % 4 ∷ third % 2 ∷ []) ≡ sets l to (svRecord (serviceAt (drop at xs)))
 service-stored xs l at to w hi lo e p q =

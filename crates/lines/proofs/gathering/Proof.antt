@@ -1,0 +1,27 @@
+-- `lines::gathering` meets its contract: a new gathering, and its line. Assumes nothing.
+use denote.Ref.{now}
+use Rattle.desk.specs.Desks.{desk}
+use Rattle.desk.proofs.Laws.{gathering-fit}
+use borrow.Author.Needs.{needs}
+use Rattle.lines.proofs.gathering.Statement.{statement}
+use Rattle.lines.proofs.gathering.Tie as tie
+
+slice-aggregate-put-text : tie.Need-slice-aggregate-put-text
+slice-aggregate-put-text c = search needs
+
+put-text-requires : tie.Need-put-text-requires
+put-text-requires c κs = search needs
+
+gathering-requires : tie.Need-gathering-requires
+gathering-requires c κs = search needs
+
+same-length : tie.Need-same-length
+same-length c = search needs
+
+returns : tie.Need-returns
+returns c = (gathering-fit (desk (c .before .before .before .before .before .before .before .before .before .args .marks) (now (c .before .before .before .before .before .before .before .before .before .args .this)) (now (c .before .before .before .before .before .before .before .before .before .args .next))) _ (c .before .before .before .before .before .before .before .before .before .pre .0) (c .gathering .ensures), c .before .before .before .put-text .ensures)
+
+pub gathering-spec : {M : Type 1} → statement M
+gathering-spec =
+    tie.close
+    (tie.spec slice-aggregate-put-text put-text-requires gathering-requires same-length returns)

@@ -1,0 +1,46 @@
+-- `stream::copy` meets what `run` asks: a fresh desk is well formed. Assumes nothing.
+use native.Mathlib.Omega.{arith}
+use mathlib.Core.Path.{_≡_, ap, _∙_}
+use mathlib.Core.Bool.{true}
+use Rattle.desk.specs.Desks.{wellFormed}
+use Rattle.desk.proofs.Keeps.{fresh-fits}
+use borrow.Author.Needs.{needs}
+use Rattle.stream.proofs.copy.Statement.{statement}
+use Rattle.stream.proofs.copy.Tie as tie
+
+fresh-requires : tie.Need-fresh-requires
+fresh-requires c κs = search needs
+
+large-buffer-requires : tie.Need-large-buffer-requires
+large-buffer-requires c κs = search needs
+
+slice-aggregate-run : tie.Need-slice-aggregate-run
+slice-aggregate-run c = search needs
+
+slice-aggregate-run-2 : tie.Need-slice-aggregate-run-2
+slice-aggregate-run-2 c = search needs
+
+slice-aggregate-run-3 : tie.Need-slice-aggregate-run-3
+slice-aggregate-run-3 c = search needs
+
+run-requires : tie.Need-run-requires
+run-requires c κs = ((ap wellFormed (c .before .before .before .before .before .before .before .before .before .before .fresh .ensures) ∙ fresh-fits, omega arith, omega arith), omega arith)
+
+same-length : tie.Need-same-length
+same-length c = search needs
+
+returns : tie.Need-returns
+returns c = search needs
+
+pub copy-spec : {M : Type 1} → statement M
+copy-spec =
+    tie.close
+    (tie.spec
+    fresh-requires
+    large-buffer-requires
+    slice-aggregate-run
+    slice-aggregate-run-2
+    slice-aggregate-run-3
+    run-requires
+    same-length
+    returns)
