@@ -21,7 +21,8 @@ use Rattle.slots.specs.Slots.{holds, missingIn, clashing, holding}
 use Rattle.slots.specs.Gathering.{Side, side, Outcome, chunkIn, kindChecks, judged, completed, placed, gathered}
 use Rattle.octets.proofs.Laws.{either}
 use Rattle.desk.specs.declared.Desk.{Desk}
-use Rattle.desk.specs.Desks.{wellFormed, slotFor, bytesFor, lengthFor, otherKind, lentFor, After, after, altered, byRole, exchanged, takenBy, callChecks, answeredBy, segmentAfter}
+use Rattle.desk.specs.Desks.{wellFormed, slotFor, bytesFor, otherKind, lentFor, After, after, altered, byRole, exchanged, takenBy, callChecks, answeredBy, segmentAfter}
+use Rattle.desk.specs.Effects.{Kept}
 
 -- ---- a segment is refused before its slot, or comes to it
 
@@ -51,15 +52,6 @@ segment-goes P d xs first second refused came = go (callChecks d xs first second
     go Fine e = subst P (sym (taken-changes (segmentKind xs) d xs first second)) (came e)
 
 -- ---- what is not altered
-
--- what a desk has for the kind j, and that kind's buffer, are as they were; so are the buffers' roles
-abbrev pub Kept : Bool → Kind → Desk → List ℕ → List ℕ → After → Type 0
-Kept swapped j d first second r =
-    (slotFor j (r .desk .marks) ≡ slotFor j (d .marks))
-    × (bytesFor j (r .desk) ≡ bytesFor j d)
-    × (lengthFor j (r .desk .marks) ≡ lengthFor j (d .marks))
-    × (lentFor j swapped (r .first) (r .second) ≡ lentFor j swapped first second)
-    × (r .desk .marks .swapped ≡ d .marks .swapped)
 
 kept-changed : (t : Bool) (k : Kind) (d : Desk) (first second : List ℕ) (o : Outcome) → Kept t (otherKind k) d first second (changed t k d first second o)
 kept-changed true This d first second o = (refl, refl, refl, refl, refl)

@@ -133,5 +133,5 @@ module _ (d : Desk) (xs first second : List ℕ) where
         h .swapped,
         small,
         shown-ready own (r .desk) (r .first) (r .second) z (h .swapped)
-        ∙ ap (λ (m : ℕ). take m (lentFor own t (r .first) (r .second))) size,
+            ∙ ap (λ (m : ℕ). take m (lentFor own t (r .first) (r .second))) size,
       ))

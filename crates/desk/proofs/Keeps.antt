@@ -275,9 +275,10 @@ module _ (d : Desk) (xs first second : List ℕ) where
           let t : Bool = d .marks .swapped in
           let p : Part = partFor k t d first second in
           taken (c .0) (takenBy k d xs first second)
-          (takes k t d xs first second
-          (gathered-answers k xs (p .side) (lent-room k t first second (c .0 .left) (c .0 .right)),
-          gathered-fits k xs (p .side) (part-fits t d first second k (c .0 .formed) .1) (c .1)))
+          (takes k t d xs first second (
+            gathered-answers k xs (p .side) (lent-room k t first second (c .0 .left) (c .0 .right)),
+            gathered-fits k xs (p .side) (part-fits t d first second k (c .0 .formed) .1) (c .1),
+          ))
 
   pub segment-fits : wellFormed d ≡ true → wellFormed (segmentAfter d xs first second .desk) ≡ true
   segment-fits w = segment-cases (λ r. wellFormed (r .desk) ≡ true) (λ f b. w) (λ y r h. takes-formed h w)

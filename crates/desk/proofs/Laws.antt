@@ -1,9 +1,8 @@
 -- Laws of the desk's definitions in the code's own terms. Assumes nothing.
-use mathlib.Core.Path.{_≡_, refl, sym, ap, _∙_}
-use mathlib.Core.Bool.{Bool, true, false, cond, not, _&&_, _||_}
+use mathlib.Core.Path.{_≡_, sym, ap, _∙_}
+use mathlib.Core.Bool.{Bool, true, false, cond, not}
 use mathlib.Core.List.{List}
 use Prim.Native.Nat.{ℕ, _≤_, _<_}
-use native.Mathlib.Omega.{arith}
 use borrow.Author.Tests.{lt-ltb, le-ltb, eq-eqb, ne-eqb, le-leb, lt-leb}
 use lib.Dec.{leb}
 use lib.ListN.{length, take}
@@ -19,10 +18,10 @@ use Rattle.slots.specs.declared.Answer.{Answer}
 use Rattle.slots.specs.declared.Answer.the-variants.{Refused}
 use Rattle.slots.specs.Segment.{segmentKind, segmentChecks}
 use Rattle.slots.specs.Slots.{noBytes, slotFits}
-use Rattle.slots.specs.Gathering.{Side, Outcome, side, outcome, gathered}
+use Rattle.slots.specs.Gathering.{side, outcome, gathered}
 use Rattle.desk.specs.declared.Marks.{Marks}
 use Rattle.desk.specs.declared.Desk.{Desk}
-use Rattle.desk.specs.Desks.{desk, emptied, fresh, lengthFits, wellFormed, newGathering, newFrame, lentFor, lengthFor, After, after, lengthAfter, altered, byRole, exchanged, answeredBy, callChecks, segmentAfter, shownLength, shown}
+use Rattle.desk.specs.Desks.{desk, emptied, fresh, lengthFits, wellFormed, newGathering, newFrame, lentFor, lengthFor, After, after, lengthAfter, altered, byRole, exchanged, answeredBy, segmentAfter, shownLength, shown}
 
 -- ---- a listing's length
 
@@ -57,7 +56,7 @@ module _ (d : Desk) where
       unfolding wellFormed
       fit-next e = simp (shown, coming, e)
 
--- ---- new gathering and new frame
+  -- ---- new gathering and new frame
 
   pub gathering-unfit : wellFormed d ≡ false → fresh ≡ newGathering d
   unfolding newGathering

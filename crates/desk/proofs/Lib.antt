@@ -1,6 +1,6 @@
 pub mod Keeps
 pub mod Frames
 pub mod Apart
-pub mod Heads
+pub mod Reserved
 pub mod Refusals
 pub mod Laws

@@ -1,13 +1,13 @@
 -- What a refusal of a segment answers and leaves. Assumes nothing.
 use mathlib.Core.Path.{_≡_, refl, sym, subst}
-use mathlib.Core.Bool.{Bool, true, false, cond, _&&_, and-eq-true-iff, true≢false}
+use mathlib.Core.Bool.{Bool, true, false, cond, true≢false}
 use mathlib.Core.List.{List, [], _∷_}
 use Prim.Native.Nat.{ℕ, zero, suc, _+_, _*_, _≤_}
 use native.Mathlib.Omega.{arith}
 use borrow.Author.Tests.{le-ltb, eqb-true, not-false}
 use lib.Dec.{T, eqb}
 use lib.ListN.{length, length-take}
-use lib.Seq.{sets, length-sets}
+use lib.Seq.{length-sets}
 use Rattle.octets.specs.Each.{Each}
 use Rattle.octets.proofs.Laws.{either}
 use Rattle.meaning.specs.declared.Kind.{Kind}
@@ -24,21 +24,16 @@ use Rattle.slots.specs.declared.Slot.{Slot}
 use Rattle.slots.specs.declared.Answer.{Answer}
 use Rattle.slots.specs.declared.Answer.the-variants.{Missing, Listed, Refused}
 use Rattle.slots.specs.Segment.{payloadBytes, segmentKind, numberIn, payloadIn, segmentChecks}
-use Rattle.slots.specs.Slots.{noBytes, holds, spoiledSlot, missingIn, slotFits, clashing, holding}
+use Rattle.slots.specs.Slots.{holds, missingIn, slotFits, clashing}
 use Rattle.slots.specs.Gathering.{Side, side, Outcome, outcome, hold, chunkIn, kindChecks, judged, completed, gathered}
 use Rattle.slots.proofs.Keeps.{slot-numbers}
 use Rattle.desk.specs.declared.Desk.{Desk}
-use Rattle.desk.specs.Desks.{lengthFits, wellFormed, slotFor, bytesFor, lengthFor, lentFor, After, after, callChecks, segmentAfter}
+use Rattle.desk.specs.Desks.{wellFormed, slotFor, bytesFor, lentFor, After, after, callChecks, segmentAfter}
+use Rattle.desk.specs.Effects.{earlyNumbers, chunkNumbers, Becomes, Leaves, unchanged, spoils, completes}
+use Rattle.desk.proofs.Keeps.{desk-parts}
 use Rattle.desk.proofs.Apart.{own, changed, segment-goes, found-changed}
 
 -- ---- the numbers that some checks can give
-
--- before the slot, and for a complete chunk
-abbrev pub earlyNumbers : List ℕ
-earlyNumbers = 1 ∷ 2 ∷ 3 ∷ 4 ∷ 5 ∷ 6 ∷ 12 ∷ []
-
-abbrev pub chunkNumbers : List ℕ
-chunkNumbers = 5 ∷ 9 ∷ 10 ∷ 11 ∷ []
 
 -- a refusal has a number among these
 Gives : List ℕ → Checked → Type 0
@@ -75,21 +70,6 @@ kind-gives Fine k xs g = search gives-check
 
 -- ---- what is left
 
--- the kind k has this slot and these bytes; its listing and both lent buffers are as they were
-abbrev pub Becomes : Kind → Desk → List ℕ → List ℕ → Slot → List ℕ → After → Type 0
-Becomes k d first second s bytes r =
-    (slotFor k (r .desk .marks) ≡ s)
-    × (bytesFor k (r .desk) ≡ bytes)
-    × (lengthFor k (r .desk .marks) ≡ lengthFor k (d .marks))
-    × (r .first ≡ first)
-    × (r .second ≡ second)
-
--- the ways that a refusal f of the segment xs goes: it changes nothing, or spoils the slot, or the slot is complete
-pub data Leaves (f : Refusal) (d : Desk) (xs first second : List ℕ) (r : After) : Type 0 where
-  unchanged : T (among earlyNumbers (numberOf f)) → r ≡ after (Refused f) d first second → Leaves f d xs first second r
-  spoils : numberOf f ≡ 7 → Becomes (segmentKind xs) d first second spoiledSlot noBytes r → Leaves f d xs first second r
-  completes : T (among chunkNumbers (numberOf f)) → missingIn (holding (slotFor (segmentKind xs) (d .marks)) xs) ≡ 0 → Becomes (segmentKind xs) d first second (holding (slotFor (segmentKind xs) (d .marks)) xs) (sets (bytesFor (segmentKind xs) d) (payloadBytes * numberIn xs) (payloadIn xs)) r → Leaves f d xs first second r
-
 -- what is so of the refusal, if an answer is one
 abbrev Refusing : (Refusal → Type 0) → Answer → Type 0
 Refusing P (Missing n) = Unit {0}
@@ -104,13 +84,8 @@ refused-changed false Next d first second f s bytes = (refl, refl, refl, refl, r
 
 -- a well formed desk has well formed slots
 slot-fits : (k : Kind) (d : Desk) → wellFormed d ≡ true → slotFits (slotFor k (d .marks)) (bytesFor k d) ≡ true
-unfolding wellFormed
-slot-fits k d w =
-    let lengths : Bool = lengthFits (d .marks .shown) && lengthFits (d .marks .coming) in
-    let this : Bool = slotFits (d .marks .this) (d .this) in
-    let next : Bool = slotFits (d .marks .next) (d .next) in
-    let both = and-eq-true-iff this next .0 (and-eq-true-iff lengths (this && next) .0 w .1) in
-    elim k [ This ↦ both .0 | Next ↦ both .1 ]
+slot-fits This d w = desk-parts d w .2
+slot-fits Next d w = desk-parts d w .3
 
 at-cond : (P : Outcome → Type 0) (t : Bool) (x y : Outcome) → (t ≡ true → P x) → (t ≡ false → P y) → P (cond t x y)
 at-cond P true x y a b = a refl

@@ -2,7 +2,7 @@
 use mathlib.Core.Path.{_≡_, refl, sym, ap, ap₂, subst, _∙_}
 use mathlib.Core.Logic.{_⊎_, ⊎-elim}
 use mathlib.Core.Bool.{true, false, not, true≢false}
-use mathlib.Core.List.{List, [], _∷_, _++_}
+use mathlib.Core.List.{List, [], _++_}
 use Prim.Native.Nat.{ℕ, _+_, _-_, _≤_, _<_}
 use native.Mathlib.Nat.{add-zero, zero-add}
 use native.Mathlib.Omega.{arith}
@@ -25,15 +25,15 @@ use Rattle.slots.specs.Slots.{noBytes}
 use Rattle.desk.specs.declared.Marks.{Marks}
 use Rattle.desk.specs.declared.Desk.{Desk}
 use Rattle.desk.specs.Desks.{desk, emptied, wellFormed, newFrame, newGathering, lentFor, After, after, segmentAfter, shownLength, shown}
-use Rattle.desk.proofs.Laws.{frame-fit, gathering-fit, shown-both, shown-is}
-use Rattle.desk.proofs.Keeps.{frame-fits, frame-good}
+use Rattle.desk.proofs.Laws.{frame-fit, shown-both, shown-is}
+use Rattle.desk.proofs.Keeps.{frame-fits}
 use Rattle.desk.proofs.Frames.{listed-shown, shown-fits, shown-small}
 use Rattle.lines.specs.declared.Entry.{Entry}
 use Rattle.lines.specs.declared.Entry.the-variants.{End, Frame, Gathering, Segment, Unknown, Cut}
 use Rattle.lines.specs.Text.{digits, newline, numbered, listed, textGA, textMissing, textSG, textEnd, kindText, frameLines, answerLines, longestLines, Put}
-use Rattle.lines.specs.Log.{markBytes, markFR, markGA, markSG, entryIn, wholeRecord, recordBytes, segmentIn, State, state, next, linesFor, lastLine, Filled, followed, filled}
+use Rattle.lines.specs.Log.{markBytes, markFR, markGA, markSG, entryIn, wholeRecord, recordBytes, segmentIn, State, state, next, linesFor, lastLine, Filled, followed, filled, Ready}
 use Rattle.lines.proofs.Text.{put-same}
-use Rattle.lines.proofs.Log.{Ready, still, record-inside, record-some, record-none, next-ready, lines-fit, filled-record, filled-stop, filled-full}
+use Rattle.lines.proofs.Log.{still, record-inside, record-some, record-none, next-ready, lines-fit, filled-record, filled-stop, filled-full}
 
 -- ---- what stands at a place of a log
 
@@ -206,10 +206,13 @@ module _ (s : State) (xs : List ℕ) (at to : ℕ) (out left : List ℕ) (wrote 
       let r : List ℕ → After = λ x. segmentAfter (s .desk) x (s .first) (s .second) in
       by-entry is (
         (λ i. state (e .0 i) (e .1 i) (e .2 i)) ∙ (λ i. state (r (part i) .desk) (r (part i) .first) (r (part i) .second)),
-        (refl, put-same out to
-        ((λ i. answerLines (r seg .answer) (shown (segmentKind seg) (e .0 i) (e .1 i) (e .2 i)))
-        ∙ (λ i. answerLines (r (part i) .answer) (shown (segmentKind (part i)) (r (part i) .desk) (r (part i) .first) (r (part i) .second))))
-        p),
+        (
+          refl,
+          put-same out to
+              ((λ i. answerLines (r seg .answer) (shown (segmentKind seg) (e .0 i) (e .1 i) (e .2 i)))
+              ∙ (λ i. answerLines (r (part i) .answer) (shown (segmentKind (part i)) (r (part i) .desk) (r (part i) .first) (r (part i) .second))))
+              p,
+        ),
       )
 
   pub turned-none : (e : Entry) (m : Marks) (read : ℕ) → e ≡ entryIn xs → wholeRecord e ≡ false → m ≡ s .desk .marks → read ≡ at → wrote ≡ to → left ≡ out → Turned (entryIn xs) s xs at to out (state (desk m (s .desk .this) (s .desk .next)) (s .first) (s .second)) read left wrote

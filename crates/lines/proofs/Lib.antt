@@ -1,3 +1,4 @@
 pub mod Text
 pub mod Log
 pub mod Laws
+pub mod Samples

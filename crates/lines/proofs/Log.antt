@@ -26,7 +26,7 @@ use Rattle.desk.proofs.Frames.{shown-small}
 use Rattle.lines.specs.declared.Entry.{Entry}
 use Rattle.lines.specs.declared.Entry.the-variants.{End, Frame, Gathering, Segment, Unknown, Cut}
 use Rattle.lines.specs.Text.{answerLines, longestLines}
-use Rattle.lines.specs.Log.{markBytes, markFR, markGA, markSG, entryIn, wholeRecord, recordBytes, segmentIn, State, next, shownIn, linesFor, lastLine, transcript, printed, Filled, followed, filling, filled}
+use Rattle.lines.specs.Log.{markBytes, markFR, markGA, markSG, entryIn, wholeRecord, recordBytes, segmentIn, State, next, shownIn, linesFor, lastLine, transcript, printed, Filled, followed, filling, filled, Ready}
 use Rattle.lines.proofs.Text.{length-numbered, length-listed, length-frameLines}
 
 -- ---- the record at the start of xs
@@ -292,9 +292,6 @@ filled-room =
     (λ room s xs w r f p. omega (arith, lines-fit (entryIn xs) s xs, length-append (linesIn s xs) (f .text)))
 
 -- ---- the desk stays well formed, and the buffers stay long enough
-
-abbrev pub Ready : State → Type 0
-Ready s = (wellFormed (s .desk) ≡ true) × (longestListing ≤ length (s .first)) × (longestListing ≤ length (s .second))
 
 pub next-ready : (e : Entry) (s : State) (xs : List ℕ) → Ready s → Ready (next e s xs)
 unfolding next

@@ -1,18 +1,19 @@
 -- Document 01, "The log program": the records of a log, and the transcript that is printed for it.
-use Prim.Native.Nat.{ℕ, zero, suc, _+_, _-_}
+use Prim.Native.Nat.{ℕ, zero, suc, _+_, _-_, _≤_}
+use mathlib.Core.Path.{_≡_}
 use mathlib.Core.Bool.{Bool, true, false, cond, _&&_}
-use mathlib.Core.List.{List, [], _∷_, _++_}
+use mathlib.Core.List.{List, [], _++_}
 use lib.Dec.{eqb, leb, ltb}
 use lib.ListN.{length, getD, take, drop}
 use Rattle.octets.specs.Word.{word}
 use Rattle.meaning.specs.declared.Kind.{Kind}
 use Rattle.meaning.specs.declared.Kind.the-variants.{This}
 use Rattle.meaning.specs.declared.Refusal.the-variants.{BadLog}
+use Rattle.meaning.specs.Sizes.{longestListing}
 use Rattle.meaning.specs.Numbers.{numberOf}
-use Rattle.slots.specs.declared.Answer.{Answer}
 use Rattle.slots.specs.Segment.{segmentBytes, segmentKind}
 use Rattle.desk.specs.declared.Desk.{Desk}
-use Rattle.desk.specs.Desks.{newGathering, newFrame, segmentAfter, shown}
+use Rattle.desk.specs.Desks.{wellFormed, newGathering, newFrame, segmentAfter, shown}
 use Rattle.lines.specs.declared.Entry.{Entry}
 use Rattle.lines.specs.declared.Entry.the-variants.{End, Frame, Gathering, Segment, Unknown, Cut}
 use Rattle.lines.specs.Text.{newline, numbered, textGA, textEnd, frameLines, answerLines, longestLines}
@@ -71,6 +72,10 @@ pub record State : Type 0 where
 
 abbrev pub state : Desk → List ℕ → List ℕ → State
 state d first second = record { desk = d; first = first; second = second }
+
+-- the desk is well formed, and both buffers are long enough
+abbrev pub Ready : State → Type 0
+Ready s = (wellFormed (s .desk) ≡ true) × (longestListing ≤ length (s .first)) × (longestListing ≤ length (s .second))
 
 unfoldable pub next : Entry → State → List ℕ → State
 next Frame s xs = state (newFrame (s .desk)) (s .first) (s .second)

@@ -16,7 +16,7 @@ ghost use Rattle.meaning.specs.Sizes.{longestListing};
 ghost use Rattle.slots.specs.Segment.{segmentKind};
 ghost use Rattle.desk.specs.Desks.{desk as Desks·desk, wellFormed, newFrame, newGathering, segmentAfter, shown};
 ghost use Rattle.lines.specs.Text.{hex, newline, numbered, listed, textGA, textEnd, frameLines, kindText, answerLines, longestLines, glyph as Text·glyph, Put};
-ghost use Rattle.lines.specs.Log.{entryIn, recordBytes, state, next as Log·next, linesFor, lastLine, filled};
+ghost use Rattle.lines.specs.Log.{Ready, entryIn, recordBytes, state, next as Log·next, linesFor, lastLine, filled};
 
 // What stands at a place of a log: its end, a whole record, an unknown mark, or a record that is cut.
 pub enum Entry {
@@ -218,7 +218,7 @@ fn frame<'a>(
     out: &mut [u8],
     to: usize,
 ) -> Turned
-    requires { ⌜ (wellFormed (Desks·desk marks (now this) (now next)) ≡ true) × (longestListing ≤ length (now first)) × (longestListing ≤ length (now second)) ⌝ }
+    requires { ⌜ Ready (state (Desks·desk marks (now this) (now next)) (now first) (now second)) ⌝ }
     requires { ⌜ to + longestLines ≤ length (now out) ⌝ }
     ensures { λ r. ⌜ Desks·desk (r .marks) (now (this .exit)) (now (next .exit)) ≡ newFrame (Desks·desk marks (now (this .entry)) (now (next .entry))) ⌝ }
     ensures { λ r. ⌜ Put (frameLines (shown Kind.This (Desks·desk (r .marks) (now (this .exit)) (now (next .exit))) (now (first .entry)) (now (second .entry)))) (now (out .entry)) to (now (out .exit)) (r .to) ⌝ }
@@ -266,7 +266,7 @@ fn segment(
     out: &mut [u8],
     to: usize,
 ) -> Turned
-    requires { ⌜ (wellFormed (Desks·desk marks (now this) (now next)) ≡ true) × (longestListing ≤ length (now first)) × (longestListing ≤ length (now second)) ⌝ }
+    requires { ⌜ Ready (state (Desks·desk marks (now this) (now next)) (now first) (now second)) ⌝ }
     requires { ⌜ to + longestLines ≤ length (now out) ⌝ }
     ensures { λ r. ⌜ (Desks·desk (r .marks) (now (this .exit)) (now (next .exit)) ≡ segmentAfter (Desks·desk marks (now (this .entry)) (now (next .entry))) (now (seg .entry)) (now (first .entry)) (now (second .entry)) .desk) × (now (first .exit) ≡ segmentAfter (Desks·desk marks (now (this .entry)) (now (next .entry))) (now (seg .entry)) (now (first .entry)) (now (second .entry)) .first) × (now (second .exit) ≡ segmentAfter (Desks·desk marks (now (this .entry)) (now (next .entry))) (now (seg .entry)) (now (first .entry)) (now (second .entry)) .second) ⌝ }
     ensures { λ r. ⌜ Put (answerLines (segmentAfter (Desks·desk marks (now (this .entry)) (now (next .entry))) (now (seg .entry)) (now (first .entry)) (now (second .entry)) .answer) (shown (segmentKind (now (seg .entry))) (Desks·desk (r .marks) (now (this .exit)) (now (next .exit))) (now (first .exit)) (now (second .exit)))) (now (out .entry)) to (now (out .exit)) (r .to) ⌝ }
@@ -320,7 +320,7 @@ fn turn(
     out: &mut [u8],
     to: usize,
 ) -> Filled
-    requires { ⌜ (wellFormed (Desks·desk marks (now this) (now next)) ≡ true) × (longestListing ≤ length (now first)) × (longestListing ≤ length (now second)) ⌝ }
+    requires { ⌜ Ready (state (Desks·desk marks (now this) (now next)) (now first) (now second)) ⌝ }
     requires { ⌜ (at ≤ length (now log)) × (to + longestLines ≤ length (now out)) ⌝ }
     ensures { λ r. ⌜ state (Desks·desk (r .marks) (now (this .exit)) (now (next .exit))) (now (first .exit)) (now (second .exit)) ≡ Log·next (entryIn (drop at (now (log .entry)))) (state (Desks·desk marks (now (this .entry)) (now (next .entry))) (now (first .entry)) (now (second .entry))) (drop at (now (log .entry))) ⌝ }
     ensures { λ r. ⌜ r .read ≡ at + recordBytes (entryIn (drop at (now (log .entry)))) ⌝ }
@@ -386,7 +386,7 @@ pub fn fill(
     log: &[u8],
     out: &mut [u8],
 ) -> Filled
-    requires { ⌜ (wellFormed (Desks·desk marks (now this) (now next)) ≡ true) × (longestListing ≤ length (now first)) × (longestListing ≤ length (now second)) ⌝ }
+    requires { ⌜ Ready (state (Desks·desk marks (now this) (now next)) (now first) (now second)) ⌝ }
     ensures { λ r. ⌜ state (Desks·desk (r .marks) (now (this .exit)) (now (next .exit))) (now (first .exit)) (now (second .exit)) ≡ filled (length (now (out .entry))) (state (Desks·desk marks (now (this .entry)) (now (next .entry))) (now (first .entry)) (now (second .entry))) (now (log .entry)) .state ⌝ }
     ensures { λ r. ⌜ r .read ≡ filled (length (now (out .entry))) (state (Desks·desk marks (now (this .entry)) (now (next .entry))) (now (first .entry)) (now (second .entry))) (now (log .entry)) .read ⌝ }
     ensures { λ r. ⌜ Put (filled (length (now (out .entry))) (state (Desks·desk marks (now (this .entry)) (now (next .entry))) (now (first .entry)) (now (second .entry))) (now (log .entry)) .text) (now (out .entry)) 0 (now (out .exit)) (r .wrote) ⌝ }

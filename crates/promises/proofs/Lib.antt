@@ -1,1 +1,3 @@
 pub mod Reader
+pub mod Desk
+pub mod Log

@@ -1,4 +1,5 @@
 pub mod Bits
 pub mod Keeps
+pub mod Heads
 pub mod Laws
 pub mod Leaves

@@ -1,6 +1,6 @@
 -- A/153 Part 3:2013, Table 6.9: the fields of a FIC segment in the standard's order and the bytes that they make; and document 01's checks on
 -- a segment by itself, with the fields by their places.
-use Prim.Native.Nat.{ℕ, _*_, _/_, _%_}
+use Prim.Native.Nat.{ℕ, _/_, _%_}
 use mathlib.Core.Bool.{not}
 use mathlib.Core.List.{List, [], _∷_, _++_}
 use lib.Dec.{ltb, eqb}

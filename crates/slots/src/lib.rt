@@ -28,10 +28,7 @@ pub enum Answer {
     // accepted; so many are still missing
     Missing(u8),
     // the last missing one: a listing of this length now stands at the start of that kind's buffer
-    Listed {
-        kind: Kind,
-        length: usize,
-    },
+    Listed { kind: Kind, length: usize },
     Refused(Refusal),
 }
 
@@ -252,21 +249,25 @@ pub fn gather(kind: Kind, slot: Slot, bytes: &mut [u8; 560], seg: &[u8], out: &m
     if clashes(slot, bytes, seg) {
         *bytes = [0u8; LONGEST_CHUNK];
         return Gathered {
-            slot: Slot { last: 0, held: 0, spoiled: true },
+            slot: Slot {
+                last: 0,
+                held: 0,
+                spoiled: true,
+            },
             answer: Answer::Refused(Refusal::Clash),
         };
     }
-    let place = seg[1] / 16;
-    if holds(slot.held, place) {
+    let number = seg[1] / 16;
+    if holds(slot.held, number) {
         return Gathered {
             slot: slot,
             answer: Answer::Missing(missing(slot)),
         };
     }
-    store(bytes, PAYLOAD * place as usize, seg);
+    store(bytes, PAYLOAD * number as usize, seg);
     let more = Slot {
         last: seg[1] % 16,
-        held: slot.held + bit(place),
+        held: slot.held + bit(number),
         spoiled: false,
     };
     let left = missing(more);

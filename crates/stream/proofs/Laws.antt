@@ -1,5 +1,5 @@
 -- Laws of moving bytes, and of the desk between two blocks. Assumes nothing.
-use mathlib.Core.Path.{_≡_, refl, sym, ap, ap₂, subst, _∙_}
+use mathlib.Core.Path.{_≡_, sym, ap, ap₂, subst, _∙_}
 use mathlib.Core.List.{List, [], _∷_, _++_}
 use Prim.Native.Nat.{ℕ, _+_, _-_, _≤_, _<_}
 use native.Mathlib.Numerals.{add-one}
@@ -7,8 +7,8 @@ use native.Mathlib.Omega.{arith}
 use lib.ListN.{length, getD, take, drop, set, length-drop}
 use lib.Seq.{take-suc, take-suc-set, length-take-le, drop-set-lt, drop-drop, getD-drop, length-sets}
 use Rattle.lines.specs.Text.{Put}
-use Rattle.lines.specs.Log.{State, filled}
-use Rattle.lines.proofs.Log.{Ready, filled-ready, filled-read, filled-room}
+use Rattle.lines.specs.Log.{State, filled, Ready}
+use Rattle.lines.proofs.Log.{filled-ready, filled-read, filled-room}
 
 -- ---- a byte moved down from the place from + i to the place i
 

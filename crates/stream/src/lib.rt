@@ -4,12 +4,11 @@ use desk::Marks;
 use lines::Entry;
 use meaning::LONGEST_LISTING;
 ghost use mathlib.Core.Path.{_≡_};
-ghost use mathlib.Core.Bool.{true};
 ghost use Prim.Native.Nat.{_+_, _-_, _≤_};
 ghost use lib.ListN.{length, take, drop};
-ghost use Rattle.meaning.specs.Sizes.{longestListing};
-ghost use Rattle.desk.specs.Desks.{desk as Desks·desk, wellFormed};
+ghost use Rattle.desk.specs.Desks.{desk as Desks·desk};
 ghost use Rattle.lines.specs.Text.{longestLines};
+ghost use Rattle.lines.specs.Log.{Ready, state};
 
 // The unread part of a block: from at up to have. It is over if no more can come.
 struct Unread {
@@ -105,7 +104,7 @@ fn run(
     from: i32,
     to: i32,
 )
-    requires { ⌜ (wellFormed (Desks·desk marks (now this) (now next)) ≡ true) × (longestListing ≤ length (now first)) × (longestListing ≤ length (now second)) ⌝ }
+    requires { ⌜ Ready (state (Desks·desk marks (now this) (now next)) (now first) (now second)) ⌝ }
     requires { ⌜ longestLines ≤ length (now out) ⌝ }
 {
     let mut m = marks;
@@ -140,5 +139,15 @@ pub fn copy(from: i32, to: i32, block: &mut [u8]) {
     let mut first = [0u8; LONGEST_LISTING];
     let mut second = [0u8; LONGEST_LISTING];
     let mut out = io::large_buffer();
-    run(marks, &mut this, &mut next, &mut first, &mut second, block, &mut out, from, to);
+    run(
+        marks,
+        &mut this,
+        &mut next,
+        &mut first,
+        &mut second,
+        block,
+        &mut out,
+        from,
+        to,
+    );
 }

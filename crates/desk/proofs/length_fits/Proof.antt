@@ -1,6 +1,5 @@
 -- `desk::length_fits` meets its contract. Assumes nothing.
 use Rattle.desk.proofs.Laws.{length-none, length-low, length-some}
-use borrow.Author.Needs.{needs}
 use Rattle.desk.proofs.length_fits.Statement.{statement}
 use Rattle.desk.proofs.length_fits.Tie as tie
 

@@ -1,5 +1,4 @@
 -- `lines::entry_at` meets its contract, test by test. Assumes nothing.
-use native.Mathlib.Omega.{arith}
 use denote.Ref.{now}
 use Rattle.lines.proofs.Laws.{entry-end, entry-short, entry-frame, entry-gathering, entry-cut, entry-segment, entry-unknown}
 use borrow.Author.Needs.{needs}

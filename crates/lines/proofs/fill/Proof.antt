@@ -2,13 +2,12 @@
 use native.Mathlib.Omega.{arith}
 use borrow.Author.Needs.{needs}
 use Prim.Native.Nat.{_+_, _-_, _≤_}
-use mathlib.Core.Path.{_≡_, refl, sym, _∙_}
+use mathlib.Core.Path.{_≡_, refl, _∙_}
 use lib.ListN.{length, drop}
 use denote.Ref.{now}
 use Rattle.desk.specs.Desks.{desk}
 use Rattle.lines.specs.Text.{longestLines}
-use Rattle.lines.specs.Log.{state, filled}
-use Rattle.lines.proofs.Log.{Ready}
+use Rattle.lines.specs.Log.{state, filled, Ready}
 use Rattle.lines.proofs.Laws.{Goes, goes-start, turned-ready, turned-inside, turned-room, turned-less, turned-goes, turned-stops, filled-is, full-stops}
 use borrow.Author.Needs.{needs}
 use Rattle.lines.proofs.fill.Statement.{statement}
@@ -55,7 +54,7 @@ loop-less : tie.Need-loop-less Inv-loop μ-loop
 loop-less c = turned-less (now (c .before .before .before .before .before .before .before .before .before .before .before .before .before .before .before .before .before .before .before .before .before .args .log)) (c .before .before .before .before .before .before .before .before .before .before .before .before .before .before .before .before .loop .out) _ (c .before .before .before .before .before .before .before .before .before .before .before .before .before .before .before .before .loop .at) (c .before .before .before .before .before .before .before .before .before .before .before .before .before .before .before .before .loop .to) _ _ (state (desk (c .before .before .before .before .before .before .before .before .before .before .before .before .before .before .before .before .loop .m) (c .before .before .before .before .before .before .before .before .before .before .before .before .before .before .before .before .loop .this) (c .before .before .before .before .before .before .before .before .before .before .before .before .before .before .before .before .loop .next)) (c .before .before .before .before .before .before .before .before .before .before .before .before .before .before .before .before .loop .first) (c .before .before .before .before .before .before .before .before .before .before .before .before .before .before .before .before .loop .second)) _ (c .before .before .before .before .before .before .before .before .before .turn .ensures) (c .before .before .before .before .before .before .before .before .before .before .before .before .before .before .before .before .loop .inv .1) (c .if1 .left)
 
 loop-again : tie.Need-loop-again Inv-loop μ-loop
-loop-again c = 
+loop-again c =
     let room : c .before .before .before .before .before .before .before .before .before .before .before .before .before .before .before .before .loop .to + longestLines ≤ length (c .before .before .before .before .before .before .before .before .before .before .before .before .before .before .before .before .loop .out) = omega (arith, c .before .before .before .before .before .before .before .before .before .before .before .before .before .before .before .loop-test .taken, c .before .before .before .before .before .before .before .before .before .before .before .before .before .before .before .before .loop .inv .2) in (
       turned-ready (now (c .before .before .before .before .before .before .before .before .before .before .before .before .before .before .before .before .before .before .before .before .before .args .log)) (c .before .before .before .before .before .before .before .before .before .before .before .before .before .before .before .before .loop .out) _ (c .before .before .before .before .before .before .before .before .before .before .before .before .before .before .before .before .loop .at) (c .before .before .before .before .before .before .before .before .before .before .before .before .before .before .before .before .loop .to) _ _ (state (desk (c .before .before .before .before .before .before .before .before .before .before .before .before .before .before .before .before .loop .m) (c .before .before .before .before .before .before .before .before .before .before .before .before .before .before .before .before .loop .this) (c .before .before .before .before .before .before .before .before .before .before .before .before .before .before .before .before .loop .next)) (c .before .before .before .before .before .before .before .before .before .before .before .before .before .before .before .before .loop .first) (c .before .before .before .before .before .before .before .before .before .before .before .before .before .before .before .before .loop .second)) _ (c .before .before .before .before .before .before .before .before .before .turn .ensures) (c .before .before .before .before .before .before .before .before .before .before .before .before .before .before .before .before .loop .inv .0),
       turned-inside (now (c .before .before .before .before .before .before .before .before .before .before .before .before .before .before .before .before .before .before .before .before .before .args .log)) (c .before .before .before .before .before .before .before .before .before .before .before .before .before .before .before .before .loop .out) _ (c .before .before .before .before .before .before .before .before .before .before .before .before .before .before .before .before .loop .at) (c .before .before .before .before .before .before .before .before .before .before .before .before .before .before .before .before .loop .to) _ _ (state (desk (c .before .before .before .before .before .before .before .before .before .before .before .before .before .before .before .before .loop .m) (c .before .before .before .before .before .before .before .before .before .before .before .before .before .before .before .before .loop .this) (c .before .before .before .before .before .before .before .before .before .before .before .before .before .before .before .before .loop .next)) (c .before .before .before .before .before .before .before .before .before .before .before .before .before .before .before .before .loop .first) (c .before .before .before .before .before .before .before .before .before .before .before .before .before .before .before .before .loop .second)) _ (c .before .before .before .before .before .before .before .before .before .turn .ensures) (c .before .before .before .before .before .before .before .before .before .before .before .before .before .before .before .before .loop .inv .1),

@@ -1,5 +1,5 @@
 -- `lines::finish` meets its contract, entry by entry. Assumes nothing.
-use mathlib.Core.Path.{_≡_, refl, sym, ap, _∙_}
+use mathlib.Core.Path.{refl, sym, ap, _∙_}
 use mathlib.Core.Logic.{inl, inr}
 use denote.Ref.{now}
 use Rattle.lines.specs.Log.{wholeRecord}

@@ -1,5 +1,4 @@
 -- `lines::frame` meets its contract: a new frame, and the lines of what it shows. Assumes nothing.
-use native.Mathlib.Omega.{arith}
 use denote.Ref.{now}
 use Rattle.lines.proofs.Text.{put-same}
 use Rattle.lines.proofs.Laws.{framed, framed-room, framed-small, framed-lines}

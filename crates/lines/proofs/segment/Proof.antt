@@ -1,7 +1,7 @@
 -- `lines::segment` meets its contract: the desk driven, and the lines of its answer. Assumes nothing.
 use mathlib.Core.Path.{sym, _∙_}
 use denote.Ref.{now}
-use Rattle.desk.specs.Desks.{desk, after}
+use Rattle.desk.specs.Desks.{desk}
 use Rattle.lines.proofs.Text.{put-same}
 use Rattle.lines.proofs.Laws.{answer-is, left-is, missing-same, refused-same, listed-room, listed-small, listed-same}
 use borrow.Author.Needs.{needs}

@@ -15,11 +15,11 @@ clashes-requires c κs = (slot-numbers (c .before .before .before .before .args 
 returns : tie.Need-returns
 returns c = gathered-clash (c .before .before .before .before .before .before .before .args .kind) (now (c .before .before .before .before .before .before .before .args .seg)) (side (c .before .before .before .before .before .before .before .args .slot) (now (c .before .before .before .before .before .before .before .args .bytes)) (now (c .before .before .before .before .before .before .before .args .out))) (sym (c .before .before .clashes .ensures) ∙ c .before .if1 .taken)
 
-shared-slice-read-place : tie.Need-shared-slice-read-place
-shared-slice-read-place c = omega (arith, segment-passes (now (c .before .before .before .before .before .before .before .args .seg)) (c .before .before .before .before .before .before .before .pre .1))
+shared-slice-read-number : tie.Need-shared-slice-read-number
+shared-slice-read-number c = omega (arith, segment-passes (now (c .before .before .before .before .before .before .before .args .seg)) (c .before .before .before .before .before .before .before .pre .1))
 
 holds-requires : tie.Need-holds-requires
-holds-requires c κs = omega (arith, number-small (now (c .before .before .before .before .before .before .before .args .seg)) (c .before .before .before .before .before .before .before .pre .1))
+holds-requires c κs = omega (arith, number-small (now (c .before .before .before .before .before .before .before .args .seg)) (c .before .before .before .before .before .before .before .pre .1), slot-numbers (c .before .before .before .before .before .before .before .args .slot) (now (c .before .before .before .before .before .before .before .args .bytes)) (c .before .before .before .before .before .before .before .pre .0))
 
 missing-requires : tie.Need-missing-requires
 missing-requires c κs = (slot-numbers (c .before .before .before .before .before .before .before .before .before .args .slot) (now (c .before .before .before .before .before .before .before .before .before .args .bytes)) (c .before .before .before .before .before .before .before .before .before .pre .0) .1, slot-numbers (c .before .before .before .before .before .before .before .before .before .args .slot) (now (c .before .before .before .before .before .before .before .before .before .args .bytes)) (c .before .before .before .before .before .before .before .before .before .pre .0) .2)
@@ -66,7 +66,7 @@ gather-spec =
     (tie.spec
     clashes-requires
     returns
-    shared-slice-read-place
+    shared-slice-read-number
     holds-requires
     missing-requires
     returns-2

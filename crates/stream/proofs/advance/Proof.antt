@@ -1,6 +1,5 @@
 -- `stream::advance` meets its contract. Assumes nothing.
 use mathlib.Core.Path.{sym}
-use denote.Ref.{now}
 use lib.Seq.{length-take-le}
 use borrow.Author.Needs.{needs}
 use Rattle.stream.proofs.advance.Statement.{statement}

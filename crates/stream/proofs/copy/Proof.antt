@@ -1,7 +1,6 @@
 -- `stream::copy` meets what `run` asks: a fresh desk is well formed. Assumes nothing.
 use native.Mathlib.Omega.{arith}
-use mathlib.Core.Path.{_≡_, ap, _∙_}
-use mathlib.Core.Bool.{true}
+use mathlib.Core.Path.{ap, _∙_}
 use Rattle.desk.specs.Desks.{wellFormed}
 use Rattle.desk.proofs.Keeps.{fresh-fits}
 use borrow.Author.Needs.{needs}

@@ -1,12 +1,10 @@
 -- `stream::move_down` meets its contract. The loop's invariant: the bytes below i are moved, those from i on are as they were; the measure is what is left. Assumes nothing.
 use native.Mathlib.Omega.{arith}
-use Prim.Native.Nat.{_+_, _-_, _≤_}
-use mathlib.Core.Path.{_≡_, refl, sym, ap, _∙_}
+use Prim.Native.Nat.{_-_, _≤_}
+use mathlib.Core.Path.{_≡_, refl, sym, _∙_}
 use lib.ListN.{length, take, drop, length-set}
-use lib.Seq.{take-take}
 use denote.Ref.{now}
 use Rattle.stream.proofs.Laws.{moved-rest, moved-front}
-use borrow.Author.Needs.{needs}
 use Rattle.stream.proofs.move_down.Statement.{statement}
 use Rattle.stream.proofs.move_down.Tie as tie
 
@@ -44,18 +42,18 @@ loop-less c = omega arith
 
 loop-again : tie.Need-loop-again Inv-loop μ-loop
 loop-again c = (
-      omega arith,
-      c .before .before .loop .inv .1,
-      length-set (c .before .before .loop .block) (c .before .before .loop .i) _ ∙ c .before .before .loop .inv .2,
-      moved-rest (c .before .before .loop .block) (now (c .before .before .before .args .block)) (c .before .before .before .args .from) (c .before .before .loop .i) (omega (arith, c .before .before .before .pre, c .before .loop-test .taken, c .before .before .loop .inv .1)) (c .before .before .loop .inv .2) (c .before .before .loop .inv .3),
-      moved-front (c .before .before .loop .block) (now (c .before .before .before .args .block)) (c .before .before .before .args .from) (c .before .before .loop .i) (omega (arith, c .before .before .before .pre, c .before .loop-test .taken, c .before .before .loop .inv .1)) (c .before .before .loop .inv .2) (c .before .before .loop .inv .3) (c .before .before .loop .inv .4),
-    )
+  omega arith,
+  c .before .before .loop .inv .1,
+  length-set (c .before .before .loop .block) (c .before .before .loop .i) _ ∙ c .before .before .loop .inv .2,
+  moved-rest (c .before .before .loop .block) (now (c .before .before .before .args .block)) (c .before .before .before .args .from) (c .before .before .loop .i) (omega (arith, c .before .before .before .pre, c .before .loop-test .taken, c .before .before .loop .inv .1)) (c .before .before .loop .inv .2) (c .before .before .loop .inv .3),
+  moved-front (c .before .before .loop .block) (now (c .before .before .before .args .block)) (c .before .before .before .args .from) (c .before .before .loop .i) (omega (arith, c .before .before .before .pre, c .before .loop-test .taken, c .before .before .loop .inv .1)) (c .before .before .loop .inv .2) (c .before .before .loop .inv .3) (c .before .before .loop .inv .4),
+)
 
 same-length : tie.Need-same-length Inv-loop μ-loop
 same-length c = c .before .loop .inv .2
 
 returns : tie.Need-returns Inv-loop μ-loop
-returns c = 
+returns c =
     let all : c .before .loop .i ≡ c .before .before .args .end - c .before .before .args .from = omega (arith, c .loop-test .left, c .before .loop .inv .0, c .before .loop .inv .1) in
     (c .before .loop .inv .1, rw (sym all) (c .before .loop .inv .4))
 

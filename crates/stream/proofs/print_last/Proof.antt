@@ -3,8 +3,7 @@ use native.Mathlib.Omega.{arith}
 use mathlib.Core.Path.{sym}
 use denote.Ref.{now}
 use lib.Seq.{length-take-le}
-use Prim.Native.Nat.{_≤_}
-use lib.ListN.{length, drop, take}
+use lib.ListN.{drop, take}
 use Rattle.lines.specs.Log.{entryIn, lastLine}
 use Rattle.lines.proofs.Laws.{last-small}
 use Rattle.stream.proofs.Laws.{put-inside}

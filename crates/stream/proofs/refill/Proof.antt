@@ -1,7 +1,7 @@
 -- `stream::refill` meets its contract: moved down, then read behind. Assumes nothing.
+use Prim.Native.Nat.{_-_}
 use native.Mathlib.Omega.{arith}
 use mathlib.Core.Path.{refl}
-use Prim.Native.Nat.{_-_}
 use denote.Ref.{now}
 use Rattle.stream.proofs.Laws.{unread-kept}
 use borrow.Author.Needs.{needs}
