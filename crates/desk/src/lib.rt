@@ -74,6 +74,21 @@ impl Marks {
         }
     }
 
+    // The same numbers, copied field by field: so no byte between the fields is copied, which costs time in a loop. Internal.
+    pub fn anew(self) -> Marks
+        ensures { λ r. ⌜ r ≡ self ⌝ }
+    {
+        let this = self.this;
+        let next = self.next;
+        Marks {
+            this: this,
+            next: next,
+            shown: self.shown,
+            coming: self.coming,
+            swapped: self.swapped,
+        }
+    }
+
     // The numbers of a well formed desk in a new gathering. Internal.
     pub fn gathering(self) -> Marks
         ensures { λ r. ⌜ r ≡ Desks·emptied (self .shown) (self .coming) (self .swapped) .marks ⌝ }

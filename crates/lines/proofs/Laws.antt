@@ -224,6 +224,10 @@ module _ (s : State) (xs : List ℕ) (at to : ℕ) (out left : List ℕ) (wrote 
   turned-none Gathering m read is w e f g h = absurd (true≢false w)
   turned-none Segment m read is w e f g h = absurd (true≢false w)
 
+-- the desk's numbers copied
+pub turned-anew : (e : Entry) (s : State) (xs : List ℕ) (at to : ℕ) (out : List ℕ) (m n : Marks) (this next first second : List ℕ) (read : ℕ) (left : List ℕ) (wrote : ℕ) → n ≡ m → Turned e s xs at to out (state (desk m this next) first second) read left wrote → Turned e s xs at to out (state (desk n this next) first second) read left wrote
+turned-anew e s xs at to out m n this next first second read left wrote is t = (ap (λ (o : Marks). state (desk o this next) first second) is ∙ t .0, t .1)
+
 -- ---- one record after the other: what is left to fill, put here, makes the whole that was asked for
 
 pub record Goes (out₀ : List ℕ) (f₀ : Filled) (out : List ℕ) (at to : ℕ) (f : Filled) : Type 0 where

@@ -20,7 +20,7 @@ use Rattle.meaning.specs.Numbers.{numberOf}
 use Rattle.slots.specs.declared.Answer.{Answer}
 use Rattle.slots.specs.declared.Answer.the-variants.{Missing, Listed, Refused}
 use Rattle.slots.specs.Segment.{segmentBytes, segmentKind}
-use Rattle.desk.specs.Desks.{wellFormed, lentFor, segmentAfter, shownLength, shown}
+use Rattle.desk.specs.Desks.{lentFor, segmentAfter, shownLength, shown}
 use Rattle.desk.proofs.Keeps.{gathering-fits, frame-fits, segment-fits, same-lengths}
 use Rattle.desk.proofs.Frames.{shown-small}
 use Rattle.lines.specs.declared.Entry.{Entry}

@@ -3,7 +3,6 @@ use mathlib.Core.Path.{_≡_, refl, sym, ap, ap₂, _∙_}
 use mathlib.Core.List.{List, [], _∷_, _++_, flatMap}
 use mathlib.Core.Bool.{Bool, true, false, cond}
 use Prim.Native.Nat.{ℕ, zero, suc, _+_, _*_, _/_, _%_, _≤_, _<_}
-use native.Mathlib.Nat.{add-suc}
 use native.Mathlib.Numerals.{add-one, add-two}
 use native.Mathlib.Omega.{arith}
 use borrow.Author.Tests.{lt-ltb, le-ltb, eq-eqb, ne-eqb}
@@ -13,14 +12,6 @@ use lib.Seq.{drop-cons, sets}
 use Rattle.octets.proofs.Stores.{stores, stored, sets-append}
 use Rattle.meaning.specs.Sizes.{longestListing}
 use Rattle.lines.specs.Text.{digits, places, numbered, glyph, hex, listed, frameLines, newline, textNone, textFR, longestLines, Put}
-
--- ---- a text: its element i, then the rest
-
-pub text-next : (xs l : List ℕ) (to i : ℕ) → i < length xs → sets (set l (to + i) (getD xs i 0)) (to + (i + 1)) (drop (i + 1) xs) ≡ sets l (to + i) (drop i xs)
-text-next xs l to i h = rw (add-one i, add-suc to i, drop-cons xs i 0 h)
-
-pub text-none : (xs l : List ℕ) (k i : ℕ) → length xs ≤ i → sets l k (drop i xs) ≡ l
-text-none xs l k i h = ap (sets l k) (drop-of-length-le xs h)
 
 -- ---- texts that are put at a place
 

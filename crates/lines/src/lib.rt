@@ -396,7 +396,8 @@ pub fn fill(
     let mut to = 0;
     while LINES <= out.len() - to {
         let f = turn(m, this, next, first, second, log, at, out, to);
-        m = f.marks;
+        let after = f.marks;
+        m = after.anew();
         to = f.wrote;
         if f.read == at {
             return idle(m, at, to);

@@ -1,11 +1,11 @@
 -- A run of stores at to, to + 1, to + 2 and so on, as code writes it, is `sets` there. Assumes nothing.
 use mathlib.Core.Path.{_≡_, refl, sym, ap, _∙_}
 use mathlib.Core.List.{List, [], _∷_, _++_}
-use Prim.Native.Nat.{ℕ, suc, _+_}
+use Prim.Native.Nat.{ℕ, suc, _+_, _≤_, _<_}
 use native.Mathlib.Nat.{add-zero, add-suc, suc-add}
 use native.Mathlib.Numerals.{add-one}
-use lib.ListN.{length, set}
-use lib.Seq.{sets}
+use lib.ListN.{length, getD, drop, set, drop-of-length-le}
+use lib.Seq.{drop-cons, sets}
 
 -- the elements of vs stored at to + k, to + (k + 1), ..
 abbrev pub stores : List ℕ → ℕ → ℕ → List ℕ → List ℕ
@@ -26,3 +26,11 @@ sets-append [] ws l i = ap (λ (n : ℕ). sets l n ws) (sym (add-zero i))
 sets-append (v ∷ vs) ws l i =
     sets-append vs ws (set l i v) (suc i)
     ∙ ap (λ (n : ℕ). sets (sets l i (v ∷ vs)) n ws) (suc-add i (length vs) ∙ sym (add-suc i (length vs)))
+
+-- ---- a copy, element by element: what is left of xs, put at the place that the code has come to
+
+pub copy-next : (xs l : List ℕ) (to i : ℕ) → i < length xs → sets (set l (to + i) (getD xs i 0)) (to + (i + 1)) (drop (i + 1) xs) ≡ sets l (to + i) (drop i xs)
+copy-next xs l to i h = rw (add-one i, add-suc to i, drop-cons xs i 0 h)
+
+pub copy-done : (xs l : List ℕ) (k i : ℕ) → length xs ≤ i → sets l k (drop i xs) ≡ l
+copy-done xs l k i h = ap (sets l k) (drop-of-length-le xs h)

@@ -1,7 +1,7 @@
 -- Laws of the slots' definitions in the code's own terms. Assumes nothing.
 use mathlib.Core.Path.{_≡_, refl, sym, ap, ap₂, _∙_}
 use mathlib.Core.Bool.{Bool, true, false, _&&_, and-true, and-false, true≢false}
-use mathlib.Core.List.{List}
+use mathlib.Core.List.{List, _++_, append-nil}
 use Prim.Native.Nat.{ℕ, zero, suc, _+_, _-_, _*_, _/_, _%_, _^_, _≤_, _<_}
 use native.Mathlib.Nat.{one-mul, add-zero, add-assoc, div-lt-iff-lt-mul}
 use native.Mathlib.Numerals.{add-one}
@@ -9,11 +9,11 @@ use native.Mathlib.Omega.{arith}
 use borrow.Author.Tests.{lt-ltb, le-ltb, ltb-true, ltb-false, eq-eqb, ne-eqb, eqb-true}
 use lib.Dec.{lit<, lit≤, eqb, ltb}
 use lib.ListN.{length, getD, set, take, drop, drop-of-length-le, length-take, length-drop}
-use lib.Seq.{drop-cons, getD-take, getD-drop, ext-getD, sets}
+use lib.Seq.{drop-cons, getD-take, getD-drop, ext-getD, sets, sets-eq}
 use lib.Pow.{pow-pos, shl-exact}
 use Rattle.meaning.specs.Sizes.{longestChunk}
 use Rattle.slots.specs.declared.Slot.{Slot}
-use Rattle.slots.specs.Segment.{segmentBytes, headBytes, payloadBytes, mostSegments}
+use Rattle.slots.specs.Segment.{segmentBytes, headBytes, payloadBytes, mostSegments, payloadIn}
 use Rattle.slots.specs.Slots.{same, holds, placeOf, zeros, allBelow, numbersFit, bytesFit, slotFits}
 use Rattle.slots.specs.Words.{eight}
 use Rattle.slots.proofs.Keeps.{same-refl, same-eq, clean}
@@ -56,15 +56,25 @@ module _ (s : Slot) where
 
 -- ---- a payload, byte by byte
 
-module _ (l seg : List ℕ) (at i : ℕ) (whole : length seg ≡ segmentBytes) where
-  pub payload-next : i < payloadBytes → sets (set l (at + i) (getD seg (headBytes + i) 0)) (at + (i + 1)) (drop (headBytes + (i + 1)) seg) ≡ sets l (at + i) (drop (headBytes + i) seg)
+module _ (l seg : List ℕ) (i : ℕ) (whole : length seg ≡ segmentBytes) where
+  pub payload-next : i < payloadBytes → sets (set l i (getD seg (headBytes + i) 0)) (i + 1) (drop (headBytes + (i + 1)) seg) ≡ sets l i (drop (headBytes + i) seg)
   payload-next h =
-      let here : at + (i + 1) ≡ suc (at + i) = omega arith in
       let there : headBytes + (i + 1) ≡ suc (headBytes + i) = omega arith in
-      rw (here, there) (sym (ap (sets l (at + i)) (drop-cons seg (headBytes + i) 0 (omega arith))))
+      rw (there, add-one i) (sym (ap (sets l i) (drop-cons seg (headBytes + i) 0 (omega arith))))
 
-  pub payload-done : payloadBytes ≤ i → sets l (at + i) (drop (headBytes + i) seg) ≡ l
-  payload-done h = let past : length seg ≤ headBytes + i = omega arith in ap (sets l (at + i)) (drop-of-length-le seg past)
+  pub payload-done : payloadBytes ≤ i → sets l i (drop (headBytes + i) seg) ≡ l
+  payload-done h = let past : length seg ≤ headBytes + i = omega arith in ap (sets l i) (drop-of-length-le seg past)
+
+pub length-payload : (seg : List ℕ) → length seg ≡ segmentBytes → length (payloadIn seg) ≡ payloadBytes
+length-payload seg whole = omega (arith, length-drop headBytes seg)
+
+pub payload-start : (seg : List ℕ) → length seg ≡ segmentBytes → sets (zeros payloadBytes) 0 (payloadIn seg) ≡ payloadIn seg
+payload-start seg whole =
+    let size = length-payload seg whole in
+    let room : 0 + length (payloadIn seg) ≤ length (zeros payloadBytes) = omega arith in
+    sets-eq (payloadIn seg) (zeros payloadBytes) 0 room
+    ∙ ap (λ (n : ℕ). payloadIn seg ++ drop (0 + n) (zeros payloadBytes)) size
+    ∙ append-nil (payloadIn seg)
 
 -- ---- equal bytes
 

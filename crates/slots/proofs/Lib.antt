@@ -1,5 +1,6 @@
 pub mod Bits
 pub mod Keeps
+pub mod Counts
 pub mod Heads
 pub mod Laws
 pub mod Leaves

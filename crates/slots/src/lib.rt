@@ -18,8 +18,8 @@ ghost use Rattle.slots.specs.Words.{eight};
 
 // A slot's numbers; its bytes stand apart. An empty slot has zeros only, a spoiled one besides its mark.
 pub struct Slot {
-    pub last: u8,
     pub held: u16,
+    pub last: u8,
     pub spoiled: bool,
 }
 
@@ -87,17 +87,18 @@ fn holds(held: u16, place: u8) -> bool
     held / bit(place) % 2 == 1
 }
 
+// How many ones each number of four bits has.
+const ONES: [u8; 16] = [0, 1, 1, 2, 1, 2, 2, 3, 1, 2, 2, 3, 2, 3, 3, 4];
+
 // How many places are held.
 fn ones(held: u16) -> u8
     ensures { λ r. ⌜ r ≡ Count·ones held ⌝ }
 {
-    let mut left = held;
-    let mut count = 0;
-    while 0 < left {
-        count += (left % 2) as u8;
-        left /= 2;
-    }
-    count
+    let a = (held % 16) as usize;
+    let b = (held / 16 % 16) as usize;
+    let c = (held / 256 % 16) as usize;
+    let d = (held / 4096) as usize;
+    ONES[a] + ONES[b] + ONES[c] + ONES[d]
 }
 
 // How many segments are missing, of a slot that holds none above its last number.
@@ -144,14 +145,29 @@ fn same(a: &[u8], at: usize, b: &[u8], from: usize) -> bool
         && word_at(a, at + 27) == word_at(b, from + 27)
 }
 
+// A segment's payload, by value: so the copies to and from it are known to touch nothing else, and go in blocks.
+fn payload_of(seg: &[u8]) -> [u8; 35]
+    requires { ⌜ length (now seg) ≡ segmentBytes ⌝ }
+    ensures { λ r. ⌜ r ≡ payloadIn (now (seg .entry)) ⌝ }
+{
+    let mut payload = [0u8; PAYLOAD];
+    let mut i = 0;
+    while i < PAYLOAD {
+        payload[i] = seg[HEAD + i];
+        i += 1;
+    }
+    payload
+}
+
 // Puts a segment's payload at a place.
 fn store(bytes: &mut [u8], at: usize, seg: &[u8])
     requires { ⌜ (at + payloadBytes ≤ length (now bytes)) × (length (now seg) ≡ segmentBytes) ⌝ }
     ensures { λ _. ⌜ now (bytes .exit) ≡ sets (now (bytes .entry)) at (payloadIn (now (seg .entry))) ⌝ }
 {
+    let payload = payload_of(seg);
     let mut i = 0;
     while i < PAYLOAD {
-        bytes[at + i] = seg[HEAD + i];
+        bytes[at + i] = payload[i];
         i += 1;
     }
 }

@@ -8,7 +8,7 @@ use mathlib.Core.Path.{_≡_, refl, sym, ap, _∙_}
 use lib.ListN.{length, drop, length-set}
 use lib.Seq.{sets}
 use denote.Ref.{now}
-use Rattle.lines.proofs.Text.{text-next, text-none}
+use Rattle.octets.proofs.Stores.{copy-next, copy-done}
 use Rattle.lines.proofs.put_text.Statement.{statement}
 use Rattle.lines.proofs.put_text.Tie as tie
 
@@ -43,7 +43,7 @@ loop-again c =
     let l = c .before .before .loop in (
       omega arith,
       simp length-set (l .inv .1),
-      text-next (now (a .text)) (l .out) (a .to) (l .i) (c .before .loop-test .taken) ∙ l .inv .2,
+      copy-next (now (a .text)) (l .out) (a .to) (l .i) (c .before .loop-test .taken) ∙ l .inv .2,
     )
 
 add-result : tie.Need-add-result Inv-loop μ-loop
@@ -56,7 +56,7 @@ returns : tie.Need-returns Inv-loop μ-loop
 returns c =
     let text = now (c .before .before .args .text) in
     let l = c .before .loop in
-    (omega arith, sym (text-none text (l .out) (c .before .before .args .to + l .i) (l .i) (c .loop-test .left)) ∙ l .inv .2)
+    (omega arith, sym (copy-done text (l .out) (c .before .before .args .to + l .i) (l .i) (c .loop-test .left)) ∙ l .inv .2)
 
 pub put-text-spec : {M : Type 1} → statement M
 put-text-spec =

@@ -1,40 +1,60 @@
--- `slots::ones` meets its contract. The loop's invariant: the count so far and the ones left are the ones asked for. The measure is what is
--- left. Assumes nothing.
-use borrow.Author.Needs.{needs}
+-- `slots::ones` meets its contract: by the table, four bits at a time. Assumes nothing.
 use native.Mathlib.Omega.{arith}
-use Prim.Native.Nat.{_+_}
-use mathlib.Core.Path.{_≡_}
-use lib.Count.{ones, ones-step, ones-le}
-use native.Mathlib.Nat.{zero-add}
-use Rattle.slots.specs.Segment.{mostSegments}
+use Prim.Native.Nat.{_/_, _%_}
+use Rattle.slots.proofs.Counts.{entry-small, table-ones}
+use borrow.Author.Needs.{needs}
 use Rattle.slots.proofs.ones.Statement.{statement}
 use Rattle.slots.proofs.ones.Tie as tie
 
-abbrev Inv-loop : tie.InvT-loop
-Inv-loop held left₀ count₀ left count = count + ones left ≡ ones held
+cast-a : tie.Need-cast-a
+cast-a c = search needs
 
-abbrev μ-loop : tie.MeasureT-loop
-μ-loop held left₀ count₀ left count = left
+cast-b : tie.Need-cast-b
+cast-b c = search needs
 
-loop-holds : tie.Need-loop-holds Inv-loop μ-loop
-loop-holds c = zero-add (ones (c .args .held))
+cast-c : tie.Need-cast-c
+cast-c c = search needs
 
-cast-count : tie.Need-cast-count Inv-loop μ-loop
-cast-count c = search needs
+cast-d : tie.Need-cast-d
+cast-d c = search needs
 
-add-count : tie.Need-add-count Inv-loop μ-loop
-add-count c = omega (arith, ones-step (c .before .loop .left), ones-le mostSegments (c .before .before .args .held) (c .before .before .fits .held .fits))
+array-read-result : tie.Need-array-read-result
+array-read-result c = search needs
 
-loop-less : tie.Need-loop-less Inv-loop μ-loop
-loop-less c = omega arith
+array-read-result-2 : tie.Need-array-read-result-2
+array-read-result-2 c = search needs
 
-loop-again : tie.Need-loop-again Inv-loop μ-loop
-loop-again c = omega (arith, ones-step (c .before .loop .left))
+add-result : tie.Need-add-result
+add-result c = omega (arith, entry-small (c .args .held % 16) (omega arith), entry-small (c .args .held / 16 % 16) (omega arith), entry-small (c .args .held / 256 % 16) (omega arith), entry-small (c .args .held / 4096) (omega arith))
 
-returns : tie.Need-returns Inv-loop μ-loop
-returns c = omega (arith, ones-le 0 (c .before .loop .left) (omega arith))
+array-read-result-3 : tie.Need-array-read-result-3
+array-read-result-3 c = search needs
+
+add-result-2 : tie.Need-add-result-2
+add-result-2 c = omega (arith, entry-small (c .args .held % 16) (omega arith), entry-small (c .args .held / 16 % 16) (omega arith), entry-small (c .args .held / 256 % 16) (omega arith), entry-small (c .args .held / 4096) (omega arith))
+
+array-read-result-4 : tie.Need-array-read-result-4
+array-read-result-4 c = search needs
+
+add-result-3 : tie.Need-add-result-3
+add-result-3 c = omega (arith, entry-small (c .args .held % 16) (omega arith), entry-small (c .args .held / 16 % 16) (omega arith), entry-small (c .args .held / 256 % 16) (omega arith), entry-small (c .args .held / 4096) (omega arith))
+
+returns : tie.Need-returns
+returns c = table-ones (c .args .held) (search needs)
 
 pub ones-spec : {M : Type 1} → statement M
 ones-spec =
     tie.close
-    (tie.spec Inv-loop μ-loop loop-holds cast-count add-count loop-less loop-again returns)
+    (tie.spec
+    cast-a
+    cast-b
+    cast-c
+    cast-d
+    array-read-result
+    array-read-result-2
+    add-result
+    array-read-result-3
+    add-result-2
+    array-read-result-4
+    add-result-3
+    returns)
