@@ -6,6 +6,7 @@ use Prim.Native.Nat.{ℕ, _≤_}
 use native.Mathlib.Omega.{arith}
 use borrow.Author.Tests.{le-ltb}
 use lib.ListN.{length, take}
+use lib.Seq.{length-take-le}
 use Rattle.octets.proofs.Laws.{either}
 use Rattle.meaning.specs.declared.Kind.{Kind}
 use Rattle.meaning.specs.declared.Kind.the-variants.{This, Next}
@@ -39,6 +40,10 @@ module _ (k : Kind) (d : Desk) (first second : List ℕ) where
   shown-fits =
       length-cases (λ n. n ≤ length (lentFor k (d .marks .swapped) first second)) (omega arith)
       (λ y. omega (arith, lengthFor-small k d (y .formed), lent-room k (d .marks .swapped) first second (y .left) (y .right)))
+
+  pub length-shown : length (shown k d first second) ≡ shownLength k d first second
+  unfolding shown
+  length-shown = length-take-le (shownLength k d first second) (lentFor k (d .marks .swapped) first second) shown-fits
 
   shown-ready : {t : Bool} → Ready d first second → d .marks .swapped ≡ t → shown k d first second ≡ take (lengthFor k (d .marks)) (lentFor k t first second)
   unfolding shown shownLength

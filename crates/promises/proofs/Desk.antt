@@ -22,10 +22,10 @@ use Rattle.slots.specs.Slots.{holds}
 use Rattle.slots.proofs.Bits.{complete-full, full-complete}
 use Rattle.slots.proofs.Heads.{head-read}
 use Rattle.desk.specs.declared.Desk.{Desk}
-use Rattle.desk.specs.Desks.{fresh, wellFormed, newGathering, newFrame, slotFor, bytesFor, otherKind, lentFor, After, after, segmentAfter, shown}
+use Rattle.desk.specs.Desks.{fresh, wellFormed, newGathering, newFrame, slotFor, bytesFor, otherKind, lentFor, After, after, segmentAfter, shownLength, shown}
 use Rattle.desk.specs.Effects.{Kept, Leaves}
 use Rattle.desk.proofs.Keeps.{fresh-fits, gathering-fits, gathering-bad, frame-fits, frame-bad, segment-fits, bad-desk, only-bad-desk, same-lengths}
-use Rattle.desk.proofs.Frames.{frame-shows, frame-place, frame-next, frame-twice, gathering-shows, next-hidden, other-shown}
+use Rattle.desk.proofs.Frames.{length-shown, frame-shows, frame-place, frame-next, frame-twice, gathering-shows, next-hidden, other-shown}
 use Rattle.desk.proofs.Apart.{other-kept, own-only}
 use Rattle.desk.proofs.Refusals.{refusal-numbers, refusal-leaves, others-leave-all}
 use Rattle.desk.proofs.Reserved.{reserved-ignored}
@@ -114,6 +114,11 @@ module _ (d : Desk) (first second : List ℕ) where
 -- and it is the same part of the caller's memory
 pub same-memory : {A : Type 0} (d : Desk) → wellFormed d ≡ true → (x y : A) → lentFor This (newFrame d .marks .swapped) x y ≡ lentFor Next (d .marks .swapped) x y
 same-memory = frame-place
+
+-- what is shown has just the length that `shownLength` says: 0 exactly if there is no listing, or a buffer is too short, or the desk is not well
+-- formed
+pub shown-length : (k : Kind) (d : Desk) (first second : List ℕ) → length (shown k d first second) ≡ shownLength k d first second
+shown-length = length-shown
 
 -- ---- segments as the standard lays them out
 
