@@ -1,5 +1,5 @@
 #!/usr/bin/env python3
-"""Prints what crates/desks must write: document 01's desk, in Python, from the document alone.
+"""Prints what crates/desks must write: document 01's desk, in Python.
 
     python3 tests/desks.py > crates/desks/stdout
 
