@@ -3,6 +3,7 @@ use mathlib.Core.Path.{_≡_, refl, sym, ap, _∙_, subst}
 use mathlib.Core.Bool.{Bool, true, false, cond, not, _||_}
 use mathlib.Core.List.{List, []}
 use Prim.Native.Nat.{ℕ}
+use borrow.Author.Tests.{le-ltb}
 use lib.Dec.{eqb, ltb}
 use lib.ListN.{length}
 use Rattle.meaning.specs.declared.Kind.{Kind}
@@ -15,14 +16,15 @@ use Rattle.meaning.specs.Sizes.{longestListing}
 use Rattle.meaning.specs.Reading.{check, checks}
 use Rattle.slots.specs.declared.Slot.{Slot}
 use Rattle.slots.specs.declared.Answer.{Answer}
-use Rattle.slots.specs.declared.Answer.the-variants.{Refused}
-use Rattle.slots.specs.Segment.{segmentKind, segmentChecks, numberIn}
+use Rattle.slots.specs.declared.Answer.the-variants.{Missing, Refused}
+use Rattle.segments.specs.Segment.{segmentKind, segmentChecks, numberIn}
 use Rattle.slots.specs.Slots.{holds, missingIn, clashing, holding}
-use Rattle.slots.specs.Gathering.{Side, side, Outcome, chunkIn, kindChecks, judged, completed, placed, gathered}
+use Rattle.slots.specs.Gathering.{Side, side, Outcome, outcome, chunkIn, kindChecks, judged, completed, placed, gathered}
 use Rattle.octets.proofs.Laws.{either}
 use Rattle.desk.specs.declared.Desk.{Desk}
-use Rattle.desk.specs.Desks.{wellFormed, slotFor, bytesFor, otherKind, lentFor, After, after, altered, byRole, exchanged, takenBy, callChecks, answeredBy, segmentAfter}
-use Rattle.desk.specs.Effects.{Kept}
+use Rattle.desk.specs.Desks.{wellFormed, slotFor, bytesFor, lengthFor, otherKind, lentFor, After, after, lengthAfter, altered, byRole, exchanged, takenBy, callChecks, answeredBy, segmentAfter}
+use Rattle.desk.specs.Effects.{Kept, Becomes}
+use Rattle.desk.proofs.Keeps.{Ready}
 
 -- ---- a segment is refused before its slot, or comes to it
 
@@ -50,6 +52,35 @@ segment-goes P d xs first second refused came = go (callChecks d xs first second
     go : (v : Checked) → callChecks d xs first second ≡ v → P (answeredBy v d xs first second)
     go (Fault f) e = refused f e
     go Fine e = subst P (sym (taken-changes (segmentKind xs) d xs first second)) (came e)
+
+-- a segment that passes all checks before the slot's comes to it
+pub segment-comes : (d : Desk) (xs first second : List ℕ) → Ready d first second → segmentChecks xs ≡ Fine → let k = segmentKind xs in let swapped = d .marks .swapped in segmentAfter d xs first second ≡ changed swapped k d first second (gathered k xs (own swapped k d first second))
+unfolding segmentAfter
+segment-comes d xs first second y fine =
+    simp (y .formed, le-ltb _ _ (y .left), le-ltb _ _ (y .right), fine) (taken-changes (segmentKind xs) d xs first second)
+
+-- ---- what is altered: that kind's buffer and its listing's length
+
+pub left-changed : (t : Bool) (k : Kind) (d : Desk) (first second : List ℕ) (o : Outcome) → let r = changed t k d first second o in (lentFor k t (r .first) (r .second) ≡ o .side .buffer) × (lengthFor k (r .desk .marks) ≡ lengthAfter (o .answer) (lengthFor k (d .marks)))
+left-changed true This d first second o = (refl, refl)
+left-changed true Next d first second o = (refl, refl)
+left-changed false This d first second o = (refl, refl)
+left-changed false Next d first second o = (refl, refl)
+
+-- an answer that lists nothing
+module _ (a : Answer) (none : (n : ℕ) → lengthAfter a n ≡ n) where
+  pub unlisted-changed : (t : Bool) (k : Kind) (d : Desk) (first second : List ℕ) (s : Slot) (bytes : List ℕ) → Becomes k d first second s bytes (changed t k d first second (outcome a (side s bytes (lentFor k t first second))))
+  unlisted-changed true This d first second s bytes = (refl, refl, none _, refl, refl)
+  unlisted-changed true Next d first second s bytes = (refl, refl, none _, refl, refl)
+  unlisted-changed false This d first second s bytes = (refl, refl, none _, refl, refl)
+  unlisted-changed false Next d first second s bytes = (refl, refl, none _, refl, refl)
+
+-- a repeat alters nothing
+pub missing-unchanged : (n : ℕ) (t : Bool) (k : Kind) (d : Desk) (first second : List ℕ) → changed t k d first second (outcome (Missing n) (own t k d first second)) ≡ after (Missing n) d first second
+missing-unchanged n true This d first second = refl
+missing-unchanged n true Next d first second = refl
+missing-unchanged n false This d first second = refl
+missing-unchanged n false Next d first second = refl
 
 -- ---- what is not altered
 

@@ -13,7 +13,7 @@ use Rattle.meaning.specs.declared.Kind.the-variants.{This, Next}
 use Rattle.meaning.specs.Sizes.{longestListing}
 use Rattle.slots.specs.declared.Answer.{Answer}
 use Rattle.slots.specs.declared.Answer.the-variants.{Listed}
-use Rattle.slots.specs.Segment.{segmentKind}
+use Rattle.segments.specs.Segment.{segmentKind}
 use Rattle.desk.specs.declared.Marks.{Marks}
 use Rattle.desk.specs.declared.Desk.{Desk}
 use Rattle.desk.specs.Desks.{emptied, fresh, wellFormed, lengthFor, otherKind, newGathering, newFrame, lentFor, tooShort, After, lengthAfter, segmentAfter, shownLength, shown}

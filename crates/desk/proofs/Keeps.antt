@@ -24,7 +24,7 @@ use Rattle.meaning.proofs.Lengths.{length-listing, listing-fits}
 use Rattle.meaning.proofs.Answers.{checks-among}
 use Rattle.slots.specs.declared.Answer.{Answer}
 use Rattle.slots.specs.declared.Answer.the-variants.{Missing, Listed, Refused}
-use Rattle.slots.specs.Segment.{segmentBytes, segmentKind, segmentChecks, sortIn, errorIn, segmentMajor, numberIn, lastIn}
+use Rattle.segments.specs.Segment.{segmentBytes, segmentKind, segmentChecks, sortIn, errorIn, segmentMajor, numberIn, lastIn}
 use Rattle.slots.specs.Slots.{slotFits, holds, missingIn, clashing}
 use Rattle.slots.specs.Gathering.{Side, side, Outcome, hold, chunkIn, kindChecks, judged, completed, gathered}
 use Rattle.slots.proofs.Keeps.{empty-fits, gathered-fits}

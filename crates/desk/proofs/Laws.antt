@@ -16,7 +16,7 @@ use Rattle.meaning.specs.Sizes.{tsBytes, longestListing}
 use Rattle.slots.specs.declared.Slot.{Slot}
 use Rattle.slots.specs.declared.Answer.{Answer}
 use Rattle.slots.specs.declared.Answer.the-variants.{Refused}
-use Rattle.slots.specs.Segment.{segmentKind, segmentChecks}
+use Rattle.segments.specs.Segment.{segmentKind, segmentChecks}
 use Rattle.slots.specs.Slots.{noBytes, slotFits}
 use Rattle.slots.specs.Gathering.{side, outcome, gathered}
 use Rattle.desk.specs.declared.Marks.{Marks}

@@ -20,18 +20,17 @@ use Rattle.meaning.specs.Sizes.{longestChunk}
 use Rattle.meaning.specs.Numbers.{numberOf, among}
 use Rattle.meaning.specs.Reading.{check, checks, ensemblesChecks, past}
 use Rattle.meaning.proofs.Checks.{check-passed}
-use Rattle.slots.specs.declared.Slot.{Slot}
 use Rattle.slots.specs.declared.Answer.{Answer}
 use Rattle.slots.specs.declared.Answer.the-variants.{Missing, Listed, Refused}
-use Rattle.slots.specs.Segment.{payloadBytes, segmentKind, numberIn, payloadIn, segmentChecks}
+use Rattle.segments.specs.Segment.{payloadBytes, segmentKind, numberIn, payloadIn, segmentChecks}
 use Rattle.slots.specs.Slots.{holds, missingIn, slotFits, clashing}
-use Rattle.slots.specs.Gathering.{Side, side, Outcome, outcome, hold, chunkIn, kindChecks, judged, completed, gathered}
+use Rattle.slots.specs.Gathering.{Side, Outcome, hold, chunkIn, kindChecks, judged, completed, gathered}
 use Rattle.slots.proofs.Keeps.{slot-numbers}
 use Rattle.desk.specs.declared.Desk.{Desk}
-use Rattle.desk.specs.Desks.{wellFormed, slotFor, bytesFor, lentFor, After, after, callChecks, segmentAfter}
-use Rattle.desk.specs.Effects.{earlyNumbers, chunkNumbers, Becomes, Leaves, unchanged, spoils, completes}
+use Rattle.desk.specs.Desks.{wellFormed, slotFor, bytesFor, After, after, callChecks, segmentAfter}
+use Rattle.desk.specs.Effects.{earlyNumbers, chunkNumbers, Leaves, unchanged, spoils, completes}
 use Rattle.desk.proofs.Keeps.{desk-parts}
-use Rattle.desk.proofs.Apart.{own, changed, segment-goes, found-changed}
+use Rattle.desk.proofs.Apart.{own, changed, segment-goes, unlisted-changed, found-changed}
 
 -- ---- the numbers that some checks can give
 
@@ -76,14 +75,8 @@ Refusing P (Missing n) = Unit {0}
 Refusing P (Listed k n) = Unit {0}
 Refusing P (Refused f) = P f
 
-refused-changed : (t : Bool) (k : Kind) (d : Desk) (first second : List ℕ) (f : Refusal) (s : Slot) (bytes : List ℕ) → Becomes k d first second s bytes (changed t k d first second (outcome (Refused f) (side s bytes (lentFor k t first second))))
-refused-changed true This d first second f s bytes = (refl, refl, refl, refl, refl)
-refused-changed true Next d first second f s bytes = (refl, refl, refl, refl, refl)
-refused-changed false This d first second f s bytes = (refl, refl, refl, refl, refl)
-refused-changed false Next d first second f s bytes = (refl, refl, refl, refl, refl)
-
 -- a well formed desk has well formed slots
-slot-fits : (k : Kind) (d : Desk) → wellFormed d ≡ true → slotFits (slotFor k (d .marks)) (bytesFor k d) ≡ true
+pub slot-fits : (k : Kind) (d : Desk) → wellFormed d ≡ true → slotFits (slotFor k (d .marks)) (bytesFor k d) ≡ true
 slot-fits This d w = desk-parts d w .2
 slot-fits Next d w = desk-parts d w .3
 
@@ -111,7 +104,7 @@ module _ (d : Desk) (xs first second : List ℕ) where
 
   judged-ends : (v : Checked) → Gives chunkNumbers v → missingIn (hold xs before .slot) ≡ 0 → Ends (judged v (segmentKind xs) (hold xs before))
   unfolding Gives
-  judged-ends (Fault f) g z = completes g z (refused-changed (d .marks .swapped) (segmentKind xs) d first second f _ _)
+  judged-ends (Fault f) g z = completes g z (unlisted-changed (Refused f) (λ n. refl) (d .marks .swapped) (segmentKind xs) d first second _ _)
   judged-ends Fine g z = tt
 
   gathered-ends : wellFormed d ≡ true → Ends (gathered (segmentKind xs) xs before)
@@ -119,7 +112,7 @@ module _ (d : Desk) (xs first second : List ℕ) where
   gathered-ends w =
       let chunk = chunkIn (hold xs before) in
       at-cond Ends (clashing (before .slot) (before .bytes) xs) _ _
-      (λ c. spoils refl (refused-changed (d .marks .swapped) (segmentKind xs) d first second Clash _ _))
+      (λ c. spoils refl (unlisted-changed (Refused Clash) (λ n. refl) (d .marks .swapped) (segmentKind xs) d first second _ _))
       (λ c.
       at-cond Ends (holds (before .slot .held) (numberIn xs)) _ _ (λ h. tt)
       (λ h.

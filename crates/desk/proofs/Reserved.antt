@@ -7,12 +7,12 @@ use Rattle.octets.specs.Bits.{Held, Bytes}
 use Rattle.meaning.specs.declared.Kind.{Kind}
 use Rattle.meaning.specs.declared.Checked.{Checked}
 use Rattle.meaning.specs.declared.Checked.the-variants.{Fine, Fault}
-use Rattle.slots.specs.Segment.{Head, headFields, segment, sortIn, segmentMajor, segmentKind, errorIn, numberIn, lastIn, payloadIn, segmentChecks}
+use Rattle.segments.specs.Segment.{Head, headFields, segment, sortIn, segmentMajor, segmentKind, errorIn, numberIn, lastIn, payloadIn, segmentChecks}
 use Rattle.slots.specs.Slots.{clashing}
 use Rattle.slots.specs.Gathering.{Side, gathered}
 use Rattle.desk.specs.declared.Desk.{Desk}
 use Rattle.desk.specs.Desks.{byRole, callChecks, answeredBy, segmentAfter}
-use Rattle.slots.proofs.Heads.{head-read}
+use Rattle.segments.proofs.Heads.{head-read}
 
 -- ---- segments that the desk takes for the same
 

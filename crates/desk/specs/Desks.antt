@@ -14,7 +14,7 @@ use Rattle.meaning.specs.Reading.{check}
 use Rattle.slots.specs.declared.Slot.{Slot}
 use Rattle.slots.specs.declared.Answer.{Answer}
 use Rattle.slots.specs.declared.Answer.the-variants.{Missing, Listed, Refused}
-use Rattle.slots.specs.Segment.{segmentKind, segmentChecks}
+use Rattle.segments.specs.Segment.{segmentKind, segmentChecks}
 use Rattle.slots.specs.Slots.{emptySlot, noBytes, slotFits}
 use Rattle.slots.specs.Gathering.{Side, side, Outcome, gathered}
 use Rattle.desk.specs.declared.Marks.{Marks}

@@ -10,7 +10,7 @@ use Rattle.meaning.specs.declared.Refusal.{Refusal}
 use Rattle.meaning.specs.Numbers.{numberOf, among}
 use Rattle.slots.specs.declared.Slot.{Slot}
 use Rattle.slots.specs.declared.Answer.the-variants.{Refused}
-use Rattle.slots.specs.Segment.{payloadBytes, segmentKind, numberIn, payloadIn}
+use Rattle.segments.specs.Segment.{payloadBytes, segmentKind, numberIn, payloadIn}
 use Rattle.slots.specs.Slots.{noBytes, spoiledSlot, missingIn, holding}
 use Rattle.desk.specs.declared.Desk.{Desk}
 use Rattle.desk.specs.Desks.{slotFor, bytesFor, lengthFor, lentFor, After, after}

@@ -8,13 +8,13 @@ use meaning::TS_RECORD;
 use slots::Answer;
 use slots::Slot;
 ghost use mathlib.Core.Path.{_≡_};
-ghost use mathlib.Core.Bool.{Bool, true, false, not};
+ghost use mathlib.Core.Bool.{true, false, not};
 ghost use Prim.Native.Nat.{_≤_};
 ghost use lib.ListN.{length, take};
 ghost use lib.ListN.{length as List·length};
 ghost use denote.Ref.{ptr};
 ghost use Rattle.meaning.specs.Sizes.{longestListing};
-ghost use Rattle.slots.specs.Segment.{segmentChecks, segmentKind};
+ghost use Rattle.segments.specs.Segment.{segmentChecks, segmentKind};
 ghost use Rattle.desk.specs.Desks.{desk as Desks·desk, emptied as Desks·emptied, fresh as Desks·fresh, lengthFits, wellFormed, newGathering, newFrame, after, segmentAfter, byRole, lengthAfter, lentFor, shownLength, shown as Desks·shown};
 ghost use Rattle.slots.specs.Slots.{emptySlot, noBytes, slotFits};
 
@@ -223,7 +223,7 @@ pub fn drive(
     if second.len() < LONGEST_LISTING {
         return short(marks);
     }
-    match slots::check_segment(seg) {
+    match segments::check_segment(seg) {
         Checked::Fault(refusal) => Driven {
             answer: Answer::Refused(refusal),
             marks: marks,

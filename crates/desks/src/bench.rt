@@ -1,7 +1,6 @@
 // A desk with two buffers for it. Each call on the desk prints a line: its name, the answer to a segment, what is shown afterwards for this
 // frame and for the next, and up to where each buffer is not as it was at first.
 use desk::Desk;
-use libc::STDOUT_FILENO;
 use meaning::Kind;
 use slots::Answer;
 
@@ -15,33 +14,12 @@ pub struct Bench {
     pub second: [u8; 1300],
 }
 
-fn say(text: &[u8]) {
-    io::write_all(STDOUT_FILENO, text);
-}
-
-fn say_number(n: u64) {
-    say(b" ");
-    io::print_decimal(STDOUT_FILENO, n);
-}
-
-fn wide(byte: u8) -> u64 {
-    byte as u64
-}
-
-fn say_hex(bytes: &[u8]) {
-    let mut i = 0;
-    while i < bytes.len() {
-        io::print_hex(STDOUT_FILENO, wide(bytes[i]), 2);
-        i += 1;
-    }
-}
-
 // A listing in hex, or a dash for none.
 fn say_listing(listing: &[u8]) {
     if listing.len() == 0 {
-        say(b"-");
+        tell::say(b"-");
     }
-    say_hex(listing);
+    tell::say_hex(listing, listing.len());
 }
 
 // How many bytes there are up to the last that is not as it was at first.
@@ -59,32 +37,30 @@ fn changed(bytes: &[u8]) -> usize {
 }
 
 fn say_answer(answer: Answer) {
-    say(b":");
+    tell::say(b":");
     match answer {
         Answer::Missing(left) => {
-            say(b" missing");
-            say_number(left as u64);
+            tell::say(b" missing");
+            tell::say_number(left as u64);
         }
         Answer::Listed { kind, length } => {
-            match kind {
-                Kind::This => say(b" list this"),
-                Kind::Next => say(b" list next"),
-            }
-            say_number(length as u64);
+            tell::say(b" list");
+            tell::say_kind(kind);
+            tell::say_number(length as u64);
         }
-        Answer::Refused(refusal) => say_number(meaning::number_of(refusal) as u64),
+        Answer::Refused(refusal) => tell::say_number(meaning::number_of(refusal) as u64),
     }
 }
 
 fn say_shown<'a>(desk: Desk, first: &'a [u8], second: &'a [u8]) {
-    say(b"; this ");
+    tell::say(b"; this ");
     say_listing(desk.show(Kind::This, first, second));
-    say(b"; next ");
+    tell::say(b"; next ");
     say_listing(desk.show(Kind::Next, first, second));
-    say(b"; changed");
-    say_number(changed(first) as u64);
-    say_number(changed(second) as u64);
-    say(b"\n");
+    tell::say(b"; changed");
+    tell::say_number(changed(first) as u64);
+    tell::say_number(changed(second) as u64);
+    tell::say(b"\n");
 }
 
 // A segment, with these buffers.
@@ -132,7 +108,7 @@ impl Bench {
     pub fn bytes_in(self, name: &[u8], seg: &[u8], m: usize, n: usize) -> Bench {
         let mut first = self.first;
         let mut second = self.second;
-        say(name);
+        tell::say(name);
         let desk = self.desk;
         let after = take_in(desk, seg, &mut first, m, &mut second, n);
         Bench {
@@ -162,7 +138,7 @@ impl Bench {
     pub fn now(self, name: &[u8]) -> Bench {
         let first = self.first;
         let second = self.second;
-        say(name);
+        tell::say(name);
         let desk = self.desk;
         say_shown(desk, &first, &second);
         self

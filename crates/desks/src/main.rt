@@ -6,8 +6,8 @@ use desk::Desk;
 use desk::Marks;
 use meaning::LONGEST_CHUNK;
 use meaning::LONGEST_LISTING;
-use slots::PAYLOAD;
-use slots::SEGMENT;
+use segments::PAYLOAD;
+use segments::SEGMENT;
 use slots::Slot;
 
 // A segment: its header, and its payload filled up with FF.

@@ -16,11 +16,11 @@ use Rattle.meaning.specs.declared.Kind.{Kind}
 use Rattle.meaning.specs.declared.Kind.the-variants.{This, Next}
 use Rattle.meaning.specs.declared.Refusal.{Refusal}
 use Rattle.meaning.specs.declared.Refusal.the-variants.{BadLog}
-use Rattle.meaning.specs.Sizes.{longestListing}
+use Rattle.meaning.specs.Sizes.{longestListing, markBytes}
 use Rattle.meaning.specs.Numbers.{numberOf}
 use Rattle.slots.specs.declared.Answer.{Answer}
 use Rattle.slots.specs.declared.Answer.the-variants.{Missing, Listed, Refused}
-use Rattle.slots.specs.Segment.{segmentBytes, segmentKind}
+use Rattle.segments.specs.Segment.{segmentBytes, segmentKind}
 use Rattle.slots.specs.Slots.{noBytes}
 use Rattle.desk.specs.declared.Marks.{Marks}
 use Rattle.desk.specs.declared.Desk.{Desk}
@@ -31,7 +31,7 @@ use Rattle.desk.proofs.Frames.{listed-shown, shown-fits, shown-small}
 use Rattle.lines.specs.declared.Entry.{Entry}
 use Rattle.lines.specs.declared.Entry.the-variants.{End, Frame, Gathering, Segment, Unknown, Cut}
 use Rattle.lines.specs.Text.{digits, newline, numbered, listed, textGA, textMissing, textSG, textEnd, kindText, frameLines, answerLines, longestLines, Put}
-use Rattle.lines.specs.Log.{markBytes, markFR, markGA, markSG, entryIn, wholeRecord, recordBytes, segmentIn, State, state, next, linesFor, lastLine, Filled, followed, filled, Ready}
+use Rattle.lines.specs.Log.{markFR, markGA, markSG, entryIn, wholeRecord, recordBytes, segmentIn, State, state, next, linesFor, lastLine, Filled, followed, filled, Ready}
 use Rattle.lines.proofs.Text.{put-same}
 use Rattle.lines.proofs.Log.{still, record-inside, record-some, record-none, next-ready, lines-fit, filled-record, filled-stop, filled-full}
 

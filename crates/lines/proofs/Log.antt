@@ -15,18 +15,18 @@ use Rattle.octets.specs.Word.{word}
 use Rattle.octets.proofs.Laws.{either}
 use Rattle.meaning.specs.declared.Kind.{Kind}
 use Rattle.meaning.specs.declared.Kind.the-variants.{This, Next}
-use Rattle.meaning.specs.Sizes.{longestListing}
+use Rattle.meaning.specs.Sizes.{longestListing, markBytes}
 use Rattle.meaning.specs.Numbers.{numberOf}
 use Rattle.slots.specs.declared.Answer.{Answer}
 use Rattle.slots.specs.declared.Answer.the-variants.{Missing, Listed, Refused}
-use Rattle.slots.specs.Segment.{segmentBytes, segmentKind}
+use Rattle.segments.specs.Segment.{segmentBytes, segmentKind}
 use Rattle.desk.specs.Desks.{lentFor, segmentAfter, shownLength, shown}
 use Rattle.desk.proofs.Keeps.{gathering-fits, frame-fits, segment-fits, same-lengths}
 use Rattle.desk.proofs.Frames.{shown-small}
 use Rattle.lines.specs.declared.Entry.{Entry}
 use Rattle.lines.specs.declared.Entry.the-variants.{End, Frame, Gathering, Segment, Unknown, Cut}
 use Rattle.lines.specs.Text.{answerLines, longestLines}
-use Rattle.lines.specs.Log.{markBytes, markFR, markGA, markSG, entryIn, wholeRecord, recordBytes, segmentIn, State, next, shownIn, linesFor, lastLine, transcript, printed, Filled, followed, filling, filled, Ready}
+use Rattle.lines.specs.Log.{markFR, markGA, markSG, entryIn, wholeRecord, recordBytes, segmentIn, State, next, shownIn, linesFor, lastLine, transcript, printed, Filled, followed, filling, filled, Ready}
 use Rattle.lines.proofs.Text.{length-numbered, length-listed, length-frameLines}
 
 -- ---- the record at the start of xs

@@ -7,7 +7,7 @@ use lib.Count.{onesIn, ones}
 use Rattle.meaning.specs.Sizes.{longestListing}
 use Rattle.meaning.specs.Listing.{ensembleListing, listing}
 use Rattle.meaning.specs.Reading.{ensemblesChecks, checks, servicesAt, ensemblesAt, listIn}
-use Rattle.slots.specs.Segment.{segmentChecks}
+use Rattle.segments.specs.Segment.{segmentChecks}
 use Rattle.slots.specs.Slots.{zeros, slotFits, clashing}
 use Rattle.slots.specs.Gathering.{completed, gathered}
 use Rattle.desk.specs.Desks.{fresh, wellFormed, newFrame, byRole, segmentAfter, shownLength, shown}

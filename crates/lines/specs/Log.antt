@@ -9,9 +9,9 @@ use Rattle.octets.specs.Word.{word}
 use Rattle.meaning.specs.declared.Kind.{Kind}
 use Rattle.meaning.specs.declared.Kind.the-variants.{This}
 use Rattle.meaning.specs.declared.Refusal.the-variants.{BadLog}
-use Rattle.meaning.specs.Sizes.{longestListing}
+use Rattle.meaning.specs.Sizes.{longestListing, markBytes}
 use Rattle.meaning.specs.Numbers.{numberOf}
-use Rattle.slots.specs.Segment.{segmentBytes, segmentKind}
+use Rattle.segments.specs.Segment.{segmentBytes, segmentKind}
 use Rattle.desk.specs.declared.Desk.{Desk}
 use Rattle.desk.specs.Desks.{wellFormed, newGathering, newFrame, segmentAfter, shown}
 use Rattle.lines.specs.declared.Entry.{Entry}
@@ -19,9 +19,6 @@ use Rattle.lines.specs.declared.Entry.the-variants.{End, Frame, Gatherin
 use Rattle.lines.specs.Text.{newline, numbered, textGA, textEnd, frameLines, answerLines, longestLines}
 
 -- ---- records
-
-abbrev pub markBytes : ℕ
-markBytes = 2
 
 -- FR, GA, SG
 abbrev pub markFR : ℕ

@@ -3,9 +3,10 @@ use desk::Marks;
 use meaning::Kind;
 use meaning::LONGEST_CHUNK;
 use meaning::LONGEST_LISTING;
+use meaning::MARK;
 use meaning::Refusal;
+use segments::SEGMENT;
 use slots::Answer;
-use slots::SEGMENT;
 ghost use mathlib.Core.Path.{_≡_};
 ghost use mathlib.Core.Bool.{true};
 ghost use mathlib.Core.List.{_++_};
@@ -13,7 +14,7 @@ ghost use Prim.Native.Nat.{suc, _+_, _*_, _%_, _≤_, _<_};
 ghost use lib.ListN.{length, take, drop};
 ghost use lib.Seq.{sets};
 ghost use Rattle.meaning.specs.Sizes.{longestListing};
-ghost use Rattle.slots.specs.Segment.{segmentKind};
+ghost use Rattle.segments.specs.Segment.{segmentKind};
 ghost use Rattle.desk.specs.Desks.{desk as Desks·desk, wellFormed, newFrame, newGathering, segmentAfter, shown};
 ghost use Rattle.lines.specs.Text.{hex, newline, numbered, listed, textGA, textEnd, frameLines, kindText, answerLines, longestLines, glyph as Text·glyph, Put};
 ghost use Rattle.lines.specs.Log.{Ready, entryIn, recordBytes, state, next as Log·next, linesFor, lastLine, filled};
@@ -40,8 +41,6 @@ struct Turned {
     marks: Marks,
     to: usize,
 }
-
-pub const MARK: usize = 2;
 
 // Room for the lines of any record.
 pub const LINES: usize = 19 + 2 * LONGEST_LISTING + 2;

@@ -112,15 +112,13 @@ dress-disregarded {xs} {ys} h g before = go (ltb (length before) longestListing)
 -- ---- the numbers of the reader
 
 -- the refusals that some checks can give are among some numbers
-Among : List ℕ → Checked → Type 0
+abbrev pub Among : List ℕ → Checked → Type 0
 Among ns v = (f : Refusal) → v ≡ Fault f → T (among ns (numberOf f))
 
-among-fine : (ns : List ℕ) → Among ns Fine
-unfolding Among
+pub among-fine : (ns : List ℕ) → Among ns Fine
 among-fine ns f e = let z : _≡_ {A = ℕ} 0 1 = cc in absurd (omega arith)
 
-among-check : (ns : List ℕ) (t : Bool) (f : Refusal) (v : Checked) → T (among ns (numberOf f)) → Among ns v → Among ns (check t f v)
-unfolding Among
+pub among-check : (ns : List ℕ) (t : Bool) (f : Refusal) (v : Checked) → T (among ns (numberOf f)) → Among ns v → Among ns (check t f v)
 among-check ns true f v m a g e = let same : f ≡ g = cc in subst (λ (x : Refusal). T (among ns (numberOf x))) same m
 among-check ns false f v m a g e = a g e
 
@@ -143,7 +141,7 @@ ensembles-among e s (suc n) ys =
     (among-check chunkNumbers (ltb (length (inside e ys)) (servicesRoom e s ys)) EndsEarly _ tt (ensembles-among e s n (past e s ys))))
 
 pub checks-among : (xs : List ℕ) (f : Refusal) → checks xs ≡ Fault f → T (among (5 ∷ 8 ∷ 9 ∷ 11 ∷ []) (numberOf f))
-unfolding checks Among
+unfolding checks
 checks-among xs =
     among-check chunkNumbers (ltb longestChunk (length xs)) TooLong _ tt
     (among-check chunkNumbers (ltb (length xs) 2) EndsEarly _ tt

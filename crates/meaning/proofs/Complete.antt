@@ -20,7 +20,7 @@ use Rattle.meaning.proofs.Rows.{serviceRow, serviceThird, ensembleRow, 
 
 -- ---- services
 
-abbrev Extended : ℕ → ServiceRow → Type 0
+abbrev pub Extended : ℕ → ServiceRow → Type 0
 Extended s v = length (v .extension) ≡ s
 
 service-read : (v : ServiceRow) (rest : List ℕ) → Held (serviceFields v) → serviceAt (serviceRow v ++ rest) ≡ serviceOf v
@@ -35,7 +35,7 @@ service-length : (s : ℕ) (v : ServiceRow) → Extended s v → length (service
 unfolding serviceRow
 service-length s v x = omega arith
 
-services-length : (s : ℕ) (vs : List ServiceRow) → Each (Extended s) vs → length (flatMap serviceRow vs) ≡ length vs * (serviceBytes + s)
+pub services-length : (s : ℕ) (vs : List ServiceRow) → Each (Extended s) vs → length (flatMap serviceRow vs) ≡ length vs * (serviceBytes + s)
 unfolding flatMap
 services-length s [] h = omega arith
 services-length s (v ∷ vs) h =
@@ -53,8 +53,13 @@ services-read s (v ∷ vs) rest h x =
 
 -- ---- ensembles
 
-abbrev Widened : ℕ → ℕ → EnsembleRow → Type 0
+abbrev pub Widened : ℕ → ℕ → EnsembleRow → Type 0
 Widened e s x = (length (x .extension) ≡ e) × Each (Extended s) (x .services)
+
+pub services-held : (x : EnsembleRow) → Held (ensembleFields x) → Held (field 8 (length (x .services)) ∷ flatMap serviceFields (x .services))
+unfolding ensembleFields
+services-held x h =
+    each-right InWidth (run (x .extension)) (field 8 (length (x .services)) ∷ flatMap serviceFields (x .services)) (h .1 .1 .1 .1 .1 .1 .1)
 
 -- an ensemble's row at the start of what is left, the extension lengths being e and s
 module _ (e s : ℕ) (x : EnsembleRow) (w : Widened e s x) (rest : List ℕ) where
@@ -101,14 +106,12 @@ module _ (e s : ℕ) (x : EnsembleRow) (w : Widened e s x) (rest : List ℕ) whe
   unfolding ensembleFields ensembleRow row
   ensemble-read h =
       let ys : List ℕ = ensembleRow x ++ rest in
-      let held : Held (field 8 (length (x .services)) ∷ flatMap serviceFields (x .services)) =
-      each-right InWidth (run (x .extension)) (field 8 (length (x .services)) ∷ flatMap serviceFields (x .services)) (h .1 .1 .1 .1 .1 .1 .1) in
       let slt : ensembleThird x / 128 ≡ x .slt = omega arith in
       let gat : ensembleThird x / 64 % 2 ≡ x .gat = omega arith in
       let eat : ensembleThird x / 32 % 2 ≡ x .eat = omega arith in
       let channel : ensembleThird x % 32 ≡ x .channel = omega arith in
       let services : servicesAt s (servicesIn e ys) (inside e ys) ≡ map serviceOf (x .services) =
-      ap₂ (servicesAt s) services-counted inside-row ∙ services-read s (x .services) rest (held .1) (w .1) in
+      ap₂ (servicesAt s) services-counted inside-row ∙ services-read s (x .services) rest (services-held x h .1) (w .1) in
       λ i. record { id = x .id; slt = slt i; gat = gat i; eat = eat i; channel = channel i; services = services i }
 
 -- the ensembles' rows, one after the other
@@ -173,20 +176,19 @@ module _ (c : Chunk) (t : Allowed c) where
       ∙ drop-at (before ++ (length (c .ensembles) ∷ [])) rest (headerBytes + c .h)
       (omega (arith, t .header, length-append (c .extension) (length (c .ensembles) ∷ [])))
 
-  ensembles-held : Held (flatMap ensembleFields (c .ensembles))
+  pub ensembles-held : Held (field 8 (length (c .ensembles)) ∷ flatMap ensembleFields (c .ensembles))
   unfolding chunkFields
   ensembles-held =
-      let loop = flatMap ensembleFields (c .ensembles) in
-      let after : List Field = field 8 (length (c .ensembles)) ∷ loop ++ run (c .stuffing) in
-      let held : Held after = each-right InWidth (run (c .extension)) after (t .held .1 .1 .1 .1 .1 .1 .1 .1) in
-      each-left InWidth loop (run (c .stuffing)) (held .1)
+      let loop : List Field = field 8 (length (c .ensembles)) ∷ flatMap ensembleFields (c .ensembles) in
+      each-left InWidth loop (run (c .stuffing))
+      (each-right InWidth (run (c .extension)) (loop ++ run (c .stuffing)) (t .held .1 .1 .1 .1 .1 .1 .1 .1))
 
   list-read : listIn xs ≡ listOf c
   unfolding listIn chunkRow rest
   list-read =
       let ensembles : ensemblesAt (eIn xs) (sIn xs) (countIn xs) (payload xs) ≡ map ensembleOf (c .ensembles) =
       (λ i. ensemblesAt (e-read i) (s-read i) (count-read i) (payload-read i))
-      ∙ ensembles-read (c .e) (c .s) (c .ensembles) (c .stuffing) ensembles-held (t .loops) in
+      ∙ ensembles-read (c .e) (c .s) (c .ensembles) (c .stuffing) (ensembles-held .1) (t .loops) in
       λ i. record { stream = word-high-low (c .stream) i; ensembles = ensembles i }
 
   chunk-passes : c .major ≡ 0 → HeaderPasses xs
@@ -204,7 +206,7 @@ module _ (c : Chunk) (t : Allowed c) where
   chunk-fine m v =
       header-fine xs (chunk-passes m)
       ((λ i. ensemblesChecks (e-read i) (s-read i) (count-read i) (payload-read i))
-      ∙ ensembles-fine (c .e) (c .s) (c .ensembles) (c .stuffing) ensembles-held (t .loops) v)
+      ∙ ensembles-fine (c .e) (c .s) (c .ensembles) (c .stuffing) (ensembles-held .1) (t .loops) v)
 
   chunk-accepts : c .major ≡ 0 → Each (λ x. x .version ≡ 0) (c .ensembles) → Accepts xs (kindOf (c .current)) (c .minor) (listOf c)
   unfolding chunkRow chunkFields

@@ -1,5 +1,5 @@
 -- How long a listing is: from the counts, and at the most 1,292 bytes for a chunk that is accepted. Assumes nothing.
-use mathlib.Core.Path.{_≡_, refl, ap, _∙_}
+use mathlib.Core.Path.{_≡_, refl, ap}
 use mathlib.Core.Logic.{⊎-elim}
 use mathlib.Core.List.{List, [], _∷_, flatMap}
 use Prim.Native.Nat.{ℕ, zero, suc, _+_, _*_, _≤_}
@@ -10,6 +10,7 @@ use Rattle.meaning.specs.declared.Checked.the-variants.{Fine}
 use Rattle.meaning.specs.Sizes.{headerBytes, ensembleBytes, serviceBytes, tsBytes, enBytes, svBytes, longestChunk, longestListing}
 use Rattle.meaning.specs.Lists.{Service, Ensemble, FicList, servicesOf}
 use Rattle.meaning.specs.Listing.{svRecord, ensembleListing, listing}
+use Rattle.meaning.specs.Plain.{plainLength}
 use Rattle.meaning.specs.Reading.{servicesAt, ensemblesAt, ensemblesChecks, checks, servicesIn, servicesRoom, inside, past, eIn, sIn, hIn, countIn, payload, listIn}
 use Rattle.meaning.proofs.Checks.{ensemble-passes, header-passes}
 
@@ -68,6 +69,19 @@ ensembles-room e s (suc n) ys p =
       mul-le-mul-left (servicesIn e ys) (le-add-right serviceBytes s),
     )
 
+-- and so the list needs no more bytes than the chunk has
+pub list-room : (xs : List ℕ) → checks xs ≡ Fine → plainLength (listIn xs) ≤ length xs
+unfolding listIn servicesOf
+list-room xs p =
+    let h = header-passes xs p in
+    omega (
+      arith,
+      h .0 .fields,
+      ensembles-room (eIn xs) (sIn xs) (countIn xs) (payload xs) (h .1),
+      length-ensemblesAt (eIn xs) (sIn xs) (countIn xs) (payload xs),
+      length-drop (headerBytes + hIn xs) xs,
+    )
+
 -- what the chunk has room for, the longest listing has room for; a service needs an ensemble
 counts-fit : (E S : ℕ) → headerBytes + ensembleBytes * E + serviceBytes * S ≤ longestChunk → (E ≡ 0 → S ≡ 0) → tsBytes + enBytes * E + svBytes * S ≤ longestListing
 counts-fit E S h k =
@@ -76,26 +90,19 @@ counts-fit E S h k =
     (λ some. let both : E + S ≤ 184 = omega arith in omega arith)
     (eq-zero-or-pos E)
 
+services-none : (es : List Ensemble) → length es ≡ 0 → length (flatMap (λ e. e .services) es) ≡ 0
+unfolding flatMap
+services-none [] z = refl
+services-none (e ∷ es) z = absurd (omega arith)
+
 pub listing-fits : (xs : List ℕ) → checks xs ≡ Fine → length (listing (listIn xs)) ≤ longestListing
-unfolding listIn servicesOf
+unfolding servicesOf
 listing-fits xs p =
-    let h = header-passes xs p in
-    let es : List Ensemble = ensemblesAt (eIn xs) (sIn xs) (countIn xs) (payload xs) in
-    let S : ℕ = length (flatMap (λ x. x .services) es) in
-    let none : countIn xs ≡ 0 → S ≡ 0 =
-    λ z. ap (λ (n : ℕ). length (flatMap (λ x. x .services) (ensemblesAt (eIn xs) (sIn xs) n (payload xs)))) z
-    ∙ unfold ensemblesAt flatMap in refl in
+    let l : FicList = listIn xs in
     omega (
       arith,
-      length-listing (listIn xs),
-      length-ensemblesAt (eIn xs) (sIn xs) (countIn xs) (payload xs),
-      counts-fit (countIn xs) S
-          (omega (
-            arith,
-            h .0 .fields,
-            h .0 .longest,
-            ensembles-room (eIn xs) (sIn xs) (countIn xs) (payload xs) (h .1),
-            length-drop (headerBytes + hIn xs) xs,
-          ))
-          none,
+      length-listing l,
+      counts-fit (length (l .ensembles)) (length (servicesOf l))
+          (omega (arith, list-room xs p, header-passes xs p .0 .longest))
+          (services-none (l .ensembles)),
     )

@@ -3,5 +3,8 @@ pub mod Rows
 pub mod Complete
 pub mod Sound
 pub mod Lengths
+pub mod Counts
+pub mod Listed
+pub mod Plain
 pub mod Answers
 pub mod Samples

@@ -58,7 +58,7 @@ ensemble-makes e =
     (makes-append (makes-octet (length (e .services)))
     (makes-rows serviceFields serviceRow service-makes (e .services))))))
 
-chunk-makes : (c : Chunk) → Makes (chunkFields c) (chunkRow c)
+pub chunk-makes : (c : Chunk) → Makes (chunkFields c) (chunkRow c)
 unfolding chunkFields chunkRow
 chunk-makes c =
     makes-append (makes-byte (field 2 (c .major) ∷ field 3 (c .minor) ∷ field 3 (c .h) ∷ []) refl)

@@ -4,3 +4,5 @@ pub mod Lists
 pub mod Layout
 pub mod Listing
 pub mod Reading
+pub mod Listed
+pub mod Plain

@@ -15,7 +15,7 @@ ensembleBytes = 4
 abbrev pub serviceBytes : ℕ
 serviceBytes = 3
 
--- the bytes of a listing's records
+-- the bytes of a listing's records, and of the mark that each begins with
 abbrev pub tsBytes : ℕ
 tsBytes = 5
 
@@ -24,6 +24,25 @@ enBytes = 6
 
 abbrev pub svBytes : ℕ
 svBytes = 7
+
+abbrev pub markBytes : ℕ
+markBytes = 2
+
+-- the greatest flags, channel version, multi, status and SP of a listing
+abbrev pub mostFlags : ℕ
+mostFlags = 7
+
+abbrev pub mostChannel : ℕ
+mostChannel = 31
+
+abbrev pub mostMulti : ℕ
+mostMulti = 3
+
+abbrev pub mostStatus : ℕ
+mostStatus = 3
+
+abbrev pub mostSP : ℕ
+mostSP = 1
 
 -- the longest listing of a chunk
 abbrev pub longestListing : ℕ

@@ -54,7 +54,7 @@ pub const ENSEMBLE: usize = 4;
 
 pub const SERVICE: usize = 3;
 
-// The longest listing of a chunk, and the listing's three records.
+// The longest listing of a chunk, the listing's three records, and the mark of a record.
 pub const LONGEST_LISTING: usize = 1292;
 
 pub const TS_RECORD: usize = 5;
@@ -62,6 +62,19 @@ pub const TS_RECORD: usize = 5;
 pub const EN_RECORD: usize = 6;
 
 pub const SV_RECORD: usize = 7;
+
+pub const MARK: usize = 2;
+
+// The greatest flags, channel version, multi, status and SP of a listing.
+pub const MOST_FLAGS: u8 = 7;
+
+pub const MOST_CHANNEL: u8 = 31;
+
+pub const MOST_MULTI: u8 = 3;
+
+pub const MOST_STATUS: u8 = 3;
+
+pub const MOST_SP: u8 = 1;
 
 // The kind that a current_next_indicator says.
 pub fn kind_of(current: u8) -> Kind

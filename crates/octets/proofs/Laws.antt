@@ -1,16 +1,19 @@
 -- Laws of fields and bytes, each over the widths. Assumes nothing.
 use mathlib.Core.Path.{_≡_, refl, sym, ap, ap₂, _∙_}
-use mathlib.Core.Bool.{Bool, true, false}
-use mathlib.Core.List.{List, [], _∷_, _++_, flatMap, append-assoc, append-nil}
-use Prim.Native.Nat.{ℕ, zero, suc, _+_, _*_, _/_, _%_, _^_, _<_}
-use native.Mathlib.Nat.{mod-eq-of-lt, mod-one, add-zero, zero-add, suc-add, add-comm}
+use mathlib.Core.Bool.{Bool, true, false, and-eq-true-iff}
+use mathlib.Core.List.{List, [], _∷_, _++_, map, flatMap, append-assoc, append-nil}
+use Prim.Native.Nat.{ℕ, zero, suc, _+_, _*_, _/_, _%_, _^_, _≤_, _<_}
+use native.Mathlib.Nat.{mod-eq-of-lt, mod-one, add-zero, zero-add, suc-add, add-comm, mul-le-mul-right, lt-of-lt-of-le, pow-suc}
 use native.Mathlib.Numerals.{one-add}
 use native.Mathlib.Omega.{arith}
-use lib.ListN.{length, getD, take, drop, length-append}
+use borrow.Author.Tests.{eq-eqb, eqb-true}
+use lib.Dec.{eqb}
+use lib.ListN.{length, getD, take, drop, length-append, length-take}
 use lib.Seq.{take-at, drop-at, getD-drop}
-use lib.Pow.{pow-add, mod-pow-add, shr-shr}
+use lib.Pow.{pow-mono, pow-add, mod-pow-add, shr-shr}
 use Rattle.octets.specs.Bits.{Field, field, bits, laid, number, octets, bytesOf, InWidth, Held, run, Bytes}
 use Rattle.octets.specs.Each.{Each}
+use Rattle.octets.specs.Same.{same}
 use Rattle.octets.specs.Word.{word, high, low, wordBytes}
 
 -- ---- a test goes one way or the other
@@ -18,6 +21,20 @@ use Rattle.octets.specs.Word.{word, high, low, wordBytes}
 pub either : {P : Type 0} (t : Bool) → (t ≡ true → P) → (t ≡ false → P) → P
 either true a b = a refl
 either false a b = b refl
+
+-- ---- equal byte strings
+
+pub same-refl : (xs : List ℕ) → same xs xs ≡ true
+same-refl [] = refl
+same-refl (x ∷ xs) = simp (eq-eqb x x refl) (same-refl xs)
+
+pub same-eq : (xs ys : List ℕ) → same xs ys ≡ true → xs ≡ ys
+same-eq [] [] e = refl
+same-eq [] (y ∷ ys) e = cc
+same-eq (x ∷ xs) [] e = cc
+same-eq (x ∷ xs) (y ∷ ys) e =
+    let p = and-eq-true-iff (eqb x y) (same xs ys) .0 e in
+    ap₂ _∷_ (eqb-true x y (p .0)) (same-eq xs ys (p .1))
 
 -- ---- every element of a joined list
 
@@ -31,6 +48,11 @@ module _ {A : Type 0} (P : A → Type 0) where
   each-join (suc n) [] p q = tt
   each-join (suc n) (x ∷ s) p q = (p .0, each-join n s (p .1) q)
 
+  pub each-split : (n : ℕ) (s : List A) → Each P s → Each P (take n s) × Each P (drop n s)
+  each-split zero s h = (tt, h)
+  each-split (suc n) [] h = (tt, tt)
+  each-split (suc n) (x ∷ s) h = let r = each-split n s (h .1) in ((h .0, r .0), r .1)
+
   pub each-left : (s t : List A) → Each P (s ++ t) → Each P s
   each-left [] t h = tt
   each-left (x ∷ s) t h = (h .0, each-left s t (h .1))
@@ -38,6 +60,10 @@ module _ {A : Type 0} (P : A → Type 0) where
   pub each-right : (s t : List A) → Each P (s ++ t) → Each P t
   each-right [] t h = h
   each-right (x ∷ s) t h = each-right s t (h .1)
+
+pub each-map : {A B : Type 0} (P : B → Type 0) (f : A → B) → ((a : A) → P (f a)) → (rs : List A) → Each P (map f rs)
+each-map P f h [] = tt
+each-map P f h (a ∷ rs) = (h a, each-map P f h rs)
 
 -- ---- two-byte numbers
 
@@ -121,10 +147,18 @@ bytes-drop zero xs h = h
 bytes-drop (suc n) [] h = tt
 bytes-drop (suc n) (x ∷ xs) h = bytes-drop n xs (h .1)
 
+pub bytes-append : (xs ys : List ℕ) → Bytes xs → Bytes ys → Bytes (xs ++ ys)
+bytes-append [] ys g h = h
+bytes-append (x ∷ xs) ys g h = (g .0, bytes-append xs ys (g .1) h)
+
 pub getD-byte : (xs : List ℕ) (i : ℕ) → Bytes xs → getD xs i 0 < 256
 getD-byte [] i h = omega arith
 getD-byte (x ∷ xs) zero h = h .0
 getD-byte (x ∷ xs) (suc i) h = getD-byte xs i (h .1)
+
+pub bytes-all : (xs : List ℕ) → ((i : ℕ) → getD xs i 0 < 256) → Bytes xs
+bytes-all [] h = tt
+bytes-all (x ∷ xs) h = (h 0, bytes-all xs (λ i. h (suc i)))
 
 -- a wide field's bits are those of its parts
 bits-split : (j k v : ℕ) → bits (j + k) v ≡ bits j (v / 2 ^ k) ++ bits k v
@@ -204,3 +238,46 @@ pub makes-rows : {A : Type 0} (fields : A → List Field) (bytes : A → List �
 unfolding flatMap
 makes-rows fields bytes one [] = makes-nil
 makes-rows fields bytes one (a ∷ rs) = makes-append (one a) (makes-rows fields bytes one rs)
+
+-- rows that are made anew fit their fields where each of them does
+pub held-rows : {A B : Type 0} (fields : A → List Field) (f : B → A) (g : A → B) → ((a : A) → Held (fields a) → Held (fields (f (g a)))) → (rs : List A) → Held (flatMap fields rs) → Held (flatMap fields (map f (map g rs)))
+unfolding flatMap
+held-rows fields f g one [] h = tt
+held-rows fields f g one (a ∷ rs) h =
+    each-append InWidth (fields (f (g a))) (flatMap fields (map f (map g rs)))
+    (one a (each-left InWidth (fields a) (flatMap fields rs) h))
+    (held-rows fields f g one rs (each-right InWidth (fields a) (flatMap fields rs) h))
+
+-- ---- what fields make are bytes: every bit is 0 or 1, and at most eight make a byte
+
+abbrev Bit : ℕ → Type 0
+Bit b = b < 2
+
+each-bits : (w v : ℕ) → Each Bit (bits w v)
+unfolding bits
+each-bits zero v = tt
+each-bits (suc w) v = (omega arith, each-bits w v)
+
+each-laid : (fs : List Field) → Each Bit (laid fs)
+unfolding laid
+each-laid [] = tt
+each-laid (field w v ∷ fs) = each-append Bit (bits w v) (laid fs) (each-bits w v) (each-laid fs)
+
+number-lt : (bs : List ℕ) → Each Bit bs → number bs < 2 ^ length bs
+unfolding number
+number-lt [] h = omega arith
+number-lt (b ∷ bs) h =
+    let one : b ≤ 1 = omega arith in
+    omega (arith, number-lt bs (h .1), mul-le-mul-right (2 ^ length bs) one, pow-suc 2 (length bs))
+
+octets-bytes : (n : ℕ) (bs : List ℕ) → Each Bit bs → Bytes (octets n bs)
+unfolding octets
+octets-bytes zero bs h = tt
+octets-bytes (suc n) bs h =
+    let p = each-split Bit 8 bs h in
+    let eight : length (take 8 bs) ≤ 8 = omega (arith, length-take 8 bs) in
+    (lt-of-lt-of-le (number-lt (take 8 bs) (p .0)) (pow-mono eight), octets-bytes n (drop 8 bs) (p .1))
+
+pub bytes-bytesOf : (fs : List Field) → Bytes (bytesOf fs)
+unfolding bytesOf
+bytes-bytesOf fs = octets-bytes (length (laid fs) / 8) (laid fs) (each-laid fs)

@@ -1,3 +1,4 @@
 pub mod Bits
 pub mod Each
 pub mod Word
+pub mod Same

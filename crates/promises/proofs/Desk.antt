@@ -17,10 +17,10 @@ use Rattle.meaning.specs.declared.Refusal.the-variants.{BadDesk}
 use Rattle.meaning.specs.Numbers.{numberOf, among}
 use Rattle.meaning.specs.Lists.{kindOf}
 use Rattle.slots.specs.declared.Answer.the-variants.{Refused}
-use Rattle.slots.specs.Segment.{headBytes, Head, headFields, segment, sortIn, segmentMajor, segmentKind, errorIn, numberIn, lastIn, payloadIn}
+use Rattle.segments.specs.Segment.{headBytes, Head, headFields, segment, sortIn, segmentMajor, segmentKind, errorIn, numberIn, lastIn, payloadIn}
 use Rattle.slots.specs.Slots.{holds}
 use Rattle.slots.proofs.Bits.{complete-full, full-complete}
-use Rattle.slots.proofs.Heads.{head-read}
+use Rattle.segments.proofs.Heads.{head-read}
 use Rattle.desk.specs.declared.Desk.{Desk}
 use Rattle.desk.specs.Desks.{fresh, wellFormed, newGathering, newFrame, slotFor, bytesFor, otherKind, lentFor, After, after, segmentAfter, shownLength, shown}
 use Rattle.desk.specs.Effects.{Kept, Leaves}

@@ -1,3 +1,4 @@
 pub mod Reader
 pub mod Desk
 pub mod Log
+pub mod Writer

@@ -2,51 +2,13 @@
 // number and, where the chunk is accepted, its kind, minor edition and length, its listing, and whether the buffer past it is as it was.
 mod made;
 
-use libc::STDOUT_FILENO;
 use made::Made;
-use meaning::Kind;
 use meaning::LONGEST_LISTING;
 use meaning::Read;
 
 const ROOM: usize = 1400;
 
 const BEFORE: u8 = 0xA5;
-
-fn say(text: &[u8]) {
-    io::write_all(STDOUT_FILENO, text);
-}
-
-fn say_number(n: u64) {
-    say(b" ");
-    io::print_decimal(STDOUT_FILENO, n);
-}
-
-fn wide(byte: u8) -> u64 {
-    byte as u64
-}
-
-// The first bytes of the buffer, in hex.
-fn say_hex(buffer: &[u8], length: usize) {
-    let mut i = 0;
-    while i < length {
-        if i < buffer.len() {
-            io::print_hex(STDOUT_FILENO, wide(buffer[i]), 2);
-        }
-        i += 1;
-    }
-}
-
-// Whether the bytes from a place on are as they were before.
-fn kept(buffer: &[u8], from: usize) -> bool {
-    let mut i = from;
-    while i < buffer.len() {
-        if buffer[i] != BEFORE {
-            return false;
-        }
-        i += 1;
-    }
-    true
-}
 
 fn say_answer(answer: Read, buffer: &[u8]) {
     let mut length = 0;
@@ -56,29 +18,22 @@ fn say_answer(answer: Read, buffer: &[u8]) {
             minor,
             length: n,
         } => {
-            say_number(0);
-            match kind {
-                Kind::This => say(b" this"),
-                Kind::Next => say(b" next"),
-            }
-            say_number(minor as u64);
-            say_number(n as u64);
-            say(b" ");
-            say_hex(buffer, n);
+            tell::say_number(0);
+            tell::say_kind(kind);
+            tell::say_number(minor as u64);
+            tell::say_number(n as u64);
+            tell::say(b" ");
+            tell::say_hex(buffer, n);
             length = n;
         }
-        Read::Refused(refusal) => say_number(meaning::number_of(refusal) as u64),
+        Read::Refused(refusal) => tell::say_number(meaning::number_of(refusal) as u64),
     }
-    if kept(buffer, length) {
-        say(b" kept\n");
-    } else {
-        say(b" CHANGED\n");
-    }
+    tell::say_kept(buffer, length, BEFORE);
 }
 
 // One chunk, with the first bytes of a buffer.
 fn run_in(name: &[u8], chunk: &[u8], buffer: &mut [u8], room: usize) {
-    say(name);
+    tell::say(name);
     if room <= buffer.len() {
         let answer = reader::read(chunk, &mut buffer[..room]);
         say_answer(answer, buffer);

@@ -1,5 +1,5 @@
 -- A well formed slot stays well formed, whatever segment comes. Assumes nothing.
-use mathlib.Core.Path.{_≡_, refl, sym, ap, ap₂, _∙_}
+use mathlib.Core.Path.{_≡_, refl, sym, ap, _∙_}
 use mathlib.Core.Bool.{Bool, true, false, not, _&&_, _||_, true≢false, and-eq-true-iff, or-true}
 use mathlib.Core.List.{List, [], _∷_, _++_, append-assoc}
 use Prim.Native.Nat.{ℕ, zero, suc, _+_, _*_, _^_, _≤_, _<_}
@@ -17,26 +17,15 @@ use Rattle.meaning.specs.declared.Checked.the-variants.{Fine, Fault}
 use Rattle.meaning.specs.Sizes.{longestChunk}
 use Rattle.meaning.specs.Reading.{checks}
 use Rattle.slots.specs.declared.Slot.{Slot}
-use Rattle.slots.specs.Segment.{segmentBytes, headBytes, payloadBytes, mostSegments, segmentChecks, sortIn, errorIn, segmentMajor, numberIn, lastIn, payloadIn}
-use Rattle.slots.specs.Slots.{zeros, same, allBelow, placeOf, holds, including, emptySlot, spoiledSlot, noBytes, missingIn, numbersFit, bytesFit, slotFits, clashing, holding}
+use Rattle.octets.specs.Same.{same}
+use Rattle.segments.specs.Segment.{segmentBytes, headBytes, payloadBytes, mostSegments, placeOf, segmentChecks, sortIn, errorIn, segmentMajor, numberIn, lastIn, payloadIn}
+use Rattle.slots.specs.Slots.{zeros, allBelow, holds, including, emptySlot, spoiledSlot, noBytes, missingIn, numbersFit, bytesFit, slotFits, clashing, holding}
 use Rattle.slots.specs.Gathering.{Side, hold, chunkIn, kindChecks, judged, completed, placed, gathered}
 use Rattle.octets.proofs.Laws.{either}
 use Rattle.meaning.proofs.Checks.{check-passed}
 use Rattle.slots.proofs.Bits.{holds-including, holds-other, including-small}
 
--- ---- equal byte strings, and tests below a number
-
-pub same-refl : (xs : List ℕ) → same xs xs ≡ true
-same-refl [] = refl
-same-refl (x ∷ xs) = simp (eq-eqb x x refl) (same-refl xs)
-
-pub same-eq : (xs ys : List ℕ) → same xs ys ≡ true → xs ≡ ys
-same-eq [] [] e = refl
-same-eq [] (y ∷ ys) e = cc
-same-eq (x ∷ xs) [] e = cc
-same-eq (x ∷ xs) (y ∷ ys) e =
-    let p = and-eq-true-iff (eqb x y) (same xs ys) .0 e in
-    ap₂ _∷_ (eqb-true x y (p .0)) (same-eq xs ys (p .1))
+-- ---- tests below a number
 
 pub all-below : (n : ℕ) (f : ℕ → Bool) → ((i : ℕ) → i < n → f i ≡ true) → allBelow n f ≡ true
 all-below zero f h = refl

@@ -5,13 +5,13 @@ use mathlib.Core.List.{List, _++_}
 use Prim.Native.Nat.{ℕ, _+_, _%_, _^_, _≤_, _<_}
 use native.Mathlib.Nat.{zero-add, zero-div}
 use native.Mathlib.Omega.{arith}
-use borrow.Author.Tests.{lt-ltb, le-ltb, eq-eqb, ne-eqb}
+use borrow.Author.Tests.{eq-eqb, ne-eqb}
 use lib.ListN.{length, getD, take, drop, length-drop}
 use lib.Seq.{take-all, sets, sets-eq}
 use lib.Pow.{pow-mono}
 use Rattle.meaning.specs.declared.Kind.{Kind}
 use Rattle.meaning.specs.declared.Refusal.{Refusal}
-use Rattle.meaning.specs.declared.Refusal.the-variants.{SegmentLength, SegmentType, ErrorBit, OtherMajor, NumberAboveLast, Clash, KindDiffers}
+use Rattle.meaning.specs.declared.Refusal.the-variants.{Clash, KindDiffers}
 use Rattle.meaning.specs.declared.Checked.{Checked}
 use Rattle.meaning.specs.declared.Checked.the-variants.{Fine, Fault}
 use Rattle.meaning.specs.Sizes.{longestListing}
@@ -21,41 +21,11 @@ use Rattle.meaning.specs.Reading.{checks, listIn}
 use Rattle.meaning.proofs.Lengths.{listing-fits}
 use Rattle.slots.specs.declared.Slot.{Slot}
 use Rattle.slots.specs.declared.Answer.the-variants.{Missing, Listed, Refused}
-use Rattle.slots.specs.Segment.{segmentBytes, headBytes, payloadBytes, mostSegments, sortIn, errorIn, segmentMajor, numberIn, lastIn, payloadIn, segmentChecks}
-use Rattle.slots.specs.Slots.{same, placeOf, holds, missingIn, slotFits, clashing, holding}
+use Rattle.octets.specs.Same.{same}
+use Rattle.segments.specs.Segment.{segmentBytes, headBytes, payloadBytes, mostSegments, placeOf, numberIn, lastIn, payloadIn, segmentChecks}
+use Rattle.slots.specs.Slots.{holds, missingIn, slotFits, clashing, holding}
 use Rattle.slots.specs.Gathering.{Side, Outcome, side, outcome, spoil, hold, chunkIn, kindChecks, judged, completed, gathered}
 use Rattle.slots.proofs.Keeps.{slot-numbers, hold-fits}
-
--- ---- the checks on a segment, one after the other
-
-module _ (xs : List ℕ) where
-  pub checks-length : (length xs ≡ segmentBytes → ⊥) → segmentChecks xs ≡ Fault SegmentLength
-  unfolding segmentChecks
-  checks-length h = simp (ne-eqb _ _ h)
-
-  module _ (whole : length xs ≡ segmentBytes) where
-    pub checks-sort : (sortIn xs ≡ 0 → ⊥) → segmentChecks xs ≡ Fault SegmentType
-    unfolding segmentChecks
-    checks-sort h = simp (eq-eqb _ _ whole, ne-eqb _ _ h)
-
-    module _ (plain : sortIn xs ≡ 0) where
-      pub checks-error : (errorIn xs ≡ 0 → ⊥) → segmentChecks xs ≡ Fault ErrorBit
-      unfolding segmentChecks
-      checks-error h = simp (eq-eqb _ _ whole, eq-eqb _ _ plain, ne-eqb _ _ h)
-
-      module _ (good : errorIn xs ≡ 0) where
-        pub checks-major : (segmentMajor xs ≡ 0 → ⊥) → segmentChecks xs ≡ Fault OtherMajor
-        unfolding segmentChecks
-        checks-major h = simp (eq-eqb _ _ whole, eq-eqb _ _ plain, eq-eqb _ _ good, ne-eqb _ _ h)
-
-        module _ (major : segmentMajor xs ≡ 0) where
-          pub checks-number : lastIn xs < numberIn xs → segmentChecks xs ≡ Fault NumberAboveLast
-          unfolding segmentChecks
-          checks-number h = simp (eq-eqb _ _ whole, eq-eqb _ _ plain, eq-eqb _ _ good, eq-eqb _ _ major, lt-ltb _ _ h)
-
-          pub checks-fine : numberIn xs ≤ lastIn xs → segmentChecks xs ≡ Fine
-          unfolding segmentChecks
-          checks-fine h = simp (eq-eqb _ _ whole, eq-eqb _ _ plain, eq-eqb _ _ good, eq-eqb _ _ major, le-ltb _ _ h)
 
 -- ---- a complete slot
 
@@ -68,14 +38,16 @@ module _ (k : Kind) (s : Side) where
   unfolding completed
   kind-refused e h = sym (ap (λ (v : Checked). judged (kindChecks v k (chunkIn s)) k s) e ∙ simp (ne-eqb _ _ h))
 
-  pub chunk-listed : (n : ℕ) (after : List ℕ) → longestListing ≤ length (s .buffer) → checks (chunkIn s) ≡ Fine → getD (chunkIn s) 1 0 % 2 ≡ currentOf k → n ≡ length (listing (listIn (chunkIn s))) → after ≡ sets (s .buffer) 0 (listing (listIn (chunkIn s))) → outcome (Listed k n) (side (s .slot) (s .bytes) after) ≡ completed k s
+  pub completed-listed : checks (chunkIn s) ≡ Fine → getD (chunkIn s) 1 0 % 2 ≡ currentOf k → let l = listing (listIn (chunkIn s)) in completed k s ≡ outcome (Listed k (length l)) (side (s .slot) (s .bytes) (l ++ drop (length l) (s .buffer)))
   unfolding completed
+  completed-listed e h = ap (λ (v : Checked). judged (kindChecks v k (chunkIn s)) k s) e ∙ simp (eq-eqb _ _ h)
+
+  pub chunk-listed : (n : ℕ) (after : List ℕ) → longestListing ≤ length (s .buffer) → checks (chunkIn s) ≡ Fine → getD (chunkIn s) 1 0 % 2 ≡ currentOf k → n ≡ length (listing (listIn (chunkIn s))) → after ≡ sets (s .buffer) 0 (listing (listIn (chunkIn s))) → outcome (Listed k n) (side (s .slot) (s .bytes) after) ≡ completed k s
   chunk-listed n after room e h size stored =
       let l : List ℕ = listing (listIn (chunkIn s)) in
       let fits : 0 + length l ≤ length (s .buffer) = omega (arith, listing-fits (chunkIn s) e) in
       let left = stored ∙ sets-eq l (s .buffer) 0 fits ∙ ap (λ (m : ℕ). l ++ drop m (s .buffer)) (zero-add (length l)) in
-      (λ i. outcome (Listed k (size i)) (side (s .slot) (s .bytes) (left i)))
-      ∙ sym (ap (λ (v : Checked). judged (kindChecks v k (chunkIn s)) k s) e ∙ simp (eq-eqb _ _ h))
+      (λ i. outcome (Listed k (size i)) (side (s .slot) (s .bytes) (left i))) ∙ sym (completed-listed e h)
 
 -- ---- whether a segment clashes
 

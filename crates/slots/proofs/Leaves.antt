@@ -1,22 +1,25 @@
 -- Laws of the slots' definitions in the code's own terms. Assumes nothing.
 use mathlib.Core.Path.{_≡_, refl, sym, ap, ap₂, _∙_}
 use mathlib.Core.Bool.{Bool, true, false, _&&_, and-true, and-false, true≢false}
-use mathlib.Core.List.{List, _++_, append-nil}
+use mathlib.Core.List.{List}
 use Prim.Native.Nat.{ℕ, zero, suc, _+_, _-_, _*_, _/_, _%_, _^_, _≤_, _<_}
 use native.Mathlib.Nat.{one-mul, add-zero, add-assoc, div-lt-iff-lt-mul}
 use native.Mathlib.Numerals.{add-one}
 use native.Mathlib.Omega.{arith}
 use borrow.Author.Tests.{lt-ltb, le-ltb, ltb-true, ltb-false, eq-eqb, ne-eqb, eqb-true}
 use lib.Dec.{lit<, lit≤, eqb, ltb}
-use lib.ListN.{length, getD, set, take, drop, drop-of-length-le, length-take, length-drop}
-use lib.Seq.{drop-cons, getD-take, getD-drop, ext-getD, sets, sets-eq}
+use lib.ListN.{length, getD, take, drop}
+use lib.Seq.{ext-getD}
 use lib.Pow.{pow-pos, shl-exact}
 use Rattle.meaning.specs.Sizes.{longestChunk}
 use Rattle.slots.specs.declared.Slot.{Slot}
-use Rattle.slots.specs.Segment.{segmentBytes, headBytes, payloadBytes, mostSegments, payloadIn}
-use Rattle.slots.specs.Slots.{same, holds, placeOf, zeros, allBelow, numbersFit, bytesFit, slotFits}
+use Rattle.octets.specs.Same.{same}
+use Rattle.octets.proofs.Laws.{same-refl, same-eq}
+use Rattle.segments.specs.Segment.{payloadBytes, mostSegments, placeOf}
+use Rattle.segments.proofs.Places.{getD-part, length-part}
+use Rattle.slots.specs.Slots.{holds, zeros, allBelow, numbersFit, bytesFit, slotFits}
 use Rattle.slots.specs.Words.{eight}
-use Rattle.slots.proofs.Keeps.{same-refl, same-eq, clean}
+use Rattle.slots.proofs.Keeps.{clean}
 
 -- two tests that pass together are equal
 both : (s t : Bool) → (s ≡ true → t ≡ true) → (t ≡ true → s ≡ true) → s ≡ t
@@ -53,28 +56,6 @@ module _ (s : Slot) where
 
     pub low-fits : (b : ℕ) → s .spoiled ≡ false → s .last < mostSegments → b ≡ 2 ^ (s .last) → ltb (s .held / b) 2 ≡ numbersFit s
     low-fits b e h is = simp (ne-eqb _ _ some, e, lt-ltb _ _ h, is) (none-above (s .held) (s .last))
-
--- ---- a payload, byte by byte
-
-module _ (l seg : List ℕ) (i : ℕ) (whole : length seg ≡ segmentBytes) where
-  pub payload-next : i < payloadBytes → sets (set l i (getD seg (headBytes + i) 0)) (i + 1) (drop (headBytes + (i + 1)) seg) ≡ sets l i (drop (headBytes + i) seg)
-  payload-next h =
-      let there : headBytes + (i + 1) ≡ suc (headBytes + i) = omega arith in
-      rw (there, add-one i) (sym (ap (sets l i) (drop-cons seg (headBytes + i) 0 (omega arith))))
-
-  pub payload-done : payloadBytes ≤ i → sets l i (drop (headBytes + i) seg) ≡ l
-  payload-done h = let past : length seg ≤ headBytes + i = omega arith in ap (sets l i) (drop-of-length-le seg past)
-
-pub length-payload : (seg : List ℕ) → length seg ≡ segmentBytes → length (payloadIn seg) ≡ payloadBytes
-length-payload seg whole = omega (arith, length-drop headBytes seg)
-
-pub payload-start : (seg : List ℕ) → length seg ≡ segmentBytes → sets (zeros payloadBytes) 0 (payloadIn seg) ≡ payloadIn seg
-payload-start seg whole =
-    let size = length-payload seg whole in
-    let room : 0 + length (payloadIn seg) ≤ length (zeros payloadBytes) = omega arith in
-    sets-eq (payloadIn seg) (zeros payloadBytes) 0 room
-    ∙ ap (λ (n : ℕ). payloadIn seg ++ drop (0 + n) (zeros payloadBytes)) size
-    ∙ append-nil (payloadIn seg)
 
 -- ---- equal bytes
 
@@ -156,12 +137,6 @@ pub tells-first : (xs ys : List ℕ) (a b x y : ℕ) → Octets xs → Octets ys
 tells-first xs ys a b x y p q e d =
     let none : Tells xs ys a b true 0 = record { left = p; right = q; passed = λ t i h. absurd (omega arith); whole = λ all. refl } in
     tells-more none 0 x y (lit≤ tt) (lit≤ tt) refl (e ∙ ap (eight xs) (sym (add-zero a))) (d ∙ ap (eight ys) (sym (add-zero b))) refl
-
-getD-part : (xs : List ℕ) (a i : ℕ) → i < payloadBytes → getD (take payloadBytes (drop a xs)) i 0 ≡ getD xs (a + i) 0
-getD-part xs a i h = getD-take payloadBytes (drop a xs) i 0 h ∙ getD-drop a xs i 0
-
-length-part : (xs : List ℕ) (a : ℕ) → a + payloadBytes ≤ length xs → length (take payloadBytes (drop a xs)) ≡ payloadBytes
-length-part xs a h = simp (length-take, length-drop) (omega arith)
 
 pub tells-same : {xs ys : List ℕ} {a b : ℕ} {f : Bool} → Tells xs ys a b f payloadBytes → a + payloadBytes ≤ length xs → b + payloadBytes ≤ length ys → f ≡ same (take payloadBytes (drop a xs)) (take payloadBytes (drop b ys))
 tells-same {xs} {ys} {a} {b} {f} h l m =

@@ -17,7 +17,7 @@ use Rattle.meaning.specs.Reading.{check, checks, listIn}
 use Rattle.slots.specs.declared.Slot.{Slot}
 use Rattle.slots.specs.declared.Answer.{Answer}
 use Rattle.slots.specs.declared.Answer.the-variants.{Missing, Listed, Refused}
-use Rattle.slots.specs.Segment.{payloadBytes, numberIn, payloadIn}
+use Rattle.segments.specs.Segment.{payloadBytes, numberIn, payloadIn}
 use Rattle.slots.specs.Slots.{noBytes, holds, spoiledSlot, missingIn, clashing, holding}
 
 -- ---- an answer in document 01's numbers: its number, 0 where it is no refusal; how many are missing, and how long the listing is, 0 where it

@@ -1,4 +1,3 @@
-pub mod Segment
 pub mod Slots
 pub mod Words
 pub mod Gathering

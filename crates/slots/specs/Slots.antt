@@ -1,23 +1,17 @@
 -- Document 01, "The desk": a slot and its bytes, 16 places of 35. Which places are held is a set of 16 bits.
-use Prim.Native.Nat.{ℕ, zero, suc, _+_, _-_, _*_, _/_, _%_, _^_}
+use Prim.Native.Nat.{ℕ, zero, suc, _+_, _-_, _/_, _%_, _^_}
 use mathlib.Core.Bool.{Bool, true, false, cond, not, _&&_, _||_}
-use mathlib.Core.List.{List, [], _∷_}
+use mathlib.Core.List.{List}
 use lib.Dec.{eqb, ltb}
-use lib.ListN.{length, take, drop, replicate}
+use lib.ListN.{length, replicate}
 use lib.Count.{ones}
 use Rattle.meaning.specs.Sizes.{longestChunk}
 use Rattle.slots.specs.declared.Slot.{Slot}
-use Rattle.slots.specs.Segment.{payloadBytes, mostSegments, numberIn, lastIn, payloadIn}
+use Rattle.octets.specs.Same.{same}
+use Rattle.segments.specs.Segment.{payloadBytes, mostSegments, placeOf, numberIn, lastIn, payloadIn}
 
 abbrev pub zeros : ℕ → List ℕ
 zeros n = replicate n 0
-
--- whether two byte strings are equal
-abbrev pub same : List ℕ → List ℕ → Bool
-same [] [] = true
-same [] (y ∷ ys) = false
-same (x ∷ xs) [] = false
-same (x ∷ xs) (y ∷ ys) = eqb x y && same xs ys
 
 -- whether every number below n passes a test
 abbrev pub allBelow : ℕ → (ℕ → Bool) → Bool
@@ -25,10 +19,6 @@ allBelow zero test = true
 allBelow (suc n) test = test n && allBelow n test
 
 -- ---- places
-
--- the bytes of the place i
-abbrev pub placeOf : List ℕ → ℕ → List ℕ
-placeOf bytes i = take payloadBytes (drop (payloadBytes * i) bytes)
 
 -- whether the place i is in the set of held places
 abbrev pub holds : ℕ → ℕ → Bool

@@ -4,6 +4,9 @@ use meaning::Checked;
 use meaning::Kind;
 use meaning::LONGEST_CHUNK;
 use meaning::Refusal;
+use segments::HEAD;
+use segments::MOST_SEGMENTS;
+use segments::PAYLOAD;
 ghost use mathlib.Core.Path.{_≡_};
 ghost use mathlib.Core.Bool.{true, false};
 ghost use Prim.Native.Nat.{_+_, _*_, _^_, _≤_, _<_};
@@ -11,8 +14,9 @@ ghost use lib.ListN.{length, take, drop};
 ghost use lib.Seq.{sets};
 ghost use lib.Count.{ones as Count·ones};
 ghost use Rattle.meaning.specs.Sizes.{longestListing, longestChunk};
-ghost use Rattle.slots.specs.Segment.{segmentBytes, payloadBytes, mostSegments, segmentChecks, numberIn, payloadIn};
-ghost use Rattle.slots.specs.Slots.{same as Slots·same, holds as Slots·holds, missingIn, numbersFit, bytesFit, slotFits, clashing, noBytes, holding};
+ghost use Rattle.segments.specs.Segment.{segmentBytes, payloadBytes, mostSegments, segmentChecks, payloadIn};
+ghost use Rattle.octets.specs.Same.{same as Same·same};
+ghost use Rattle.slots.specs.Slots.{holds as Slots·holds, missingIn, numbersFit, bytesFit, slotFits, clashing};
 ghost use Rattle.slots.specs.Gathering.{side, outcome, gathered, completed};
 ghost use Rattle.slots.specs.Words.{eight};
 
@@ -36,39 +40,6 @@ pub enum Answer {
 pub struct Gathered {
     pub slot: Slot,
     pub answer: Answer,
-}
-
-// A segment, its header and its payload; how many segments a chunk has at the most.
-pub const SEGMENT: usize = 37;
-
-pub const HEAD: usize = 2;
-
-pub const PAYLOAD: usize = 35;
-
-pub const PLACES: u8 = 16;
-
-// The checks on a segment's own length and header, in document 01's order.
-pub fn check_segment(seg: &[u8]) -> Checked
-    ensures { λ r. ⌜ r ≡ segmentChecks (now (seg .entry)) ⌝ }
-{
-    if seg.len() != SEGMENT {
-        return Checked::Fault(Refusal::SegmentLength);
-    }
-    let first = seg[0];
-    let second = seg[1];
-    if first / 64 != 0 {
-        return Checked::Fault(Refusal::SegmentType);
-    }
-    if first % 2 != 0 {
-        return Checked::Fault(Refusal::ErrorBit);
-    }
-    if first / 4 % 4 != 0 {
-        return Checked::Fault(Refusal::OtherMajor);
-    }
-    if second % 16 < second / 16 {
-        return Checked::Fault(Refusal::NumberAboveLast);
-    }
-    Checked::Fine
 }
 
 // ---- the set of held places
@@ -136,7 +107,7 @@ fn wide(byte: u8) -> u64
 // Whether 35 bytes of a are those of b: by words, the last two of which overlap.
 fn same(a: &[u8], at: usize, b: &[u8], from: usize) -> bool
     requires { ⌜ (at + payloadBytes ≤ length (now a)) × (from + payloadBytes ≤ length (now b)) ⌝ }
-    ensures { λ r. ⌜ r ≡ Slots·same (take payloadBytes (drop at (now (a .entry)))) (take payloadBytes (drop from (now (b .entry)))) ⌝ }
+    ensures { λ r. ⌜ r ≡ Same·same (take payloadBytes (drop at (now (a .entry)))) (take payloadBytes (drop from (now (b .entry)))) ⌝ }
 {
     word_at(a, at) == word_at(b, from)
         && word_at(a, at + 8) == word_at(b, from + 8)
@@ -145,31 +116,12 @@ fn same(a: &[u8], at: usize, b: &[u8], from: usize) -> bool
         && word_at(a, at + 27) == word_at(b, from + 27)
 }
 
-// A segment's payload, by value: so the copies to and from it are known to touch nothing else, and go in blocks.
-fn payload_of(seg: &[u8]) -> [u8; 35]
-    requires { ⌜ length (now seg) ≡ segmentBytes ⌝ }
-    ensures { λ r. ⌜ r ≡ payloadIn (now (seg .entry)) ⌝ }
-{
-    let mut payload = [0u8; PAYLOAD];
-    let mut i = 0;
-    while i < PAYLOAD {
-        payload[i] = seg[HEAD + i];
-        i += 1;
-    }
-    payload
-}
-
 // Puts a segment's payload at a place.
 fn store(bytes: &mut [u8], at: usize, seg: &[u8])
     requires { ⌜ (at + payloadBytes ≤ length (now bytes)) × (length (now seg) ≡ segmentBytes) ⌝ }
     ensures { λ _. ⌜ now (bytes .exit) ≡ sets (now (bytes .entry)) at (payloadIn (now (seg .entry))) ⌝ }
 {
-    let payload = payload_of(seg);
-    let mut i = 0;
-    while i < PAYLOAD {
-        bytes[at + i] = payload[i];
-        i += 1;
-    }
+    segments::copy_payload(seg, HEAD, bytes, at);
 }
 
 // ---- slots
@@ -182,7 +134,7 @@ fn bytes_fit(held: u16, bytes: &[u8; 560]) -> bool
     let none: &[u8] = &[0u8; PAYLOAD];
     let mut fits = true;
     let mut place = 0u8;
-    while place < PLACES {
+    while place < MOST_SEGMENTS {
         fits = fits && (holds(held, place) || same(all, PAYLOAD * place as usize, none, 0));
         place += 1;
     }
@@ -198,7 +150,7 @@ fn numbers_fit(slot: Slot) -> bool
     if slot.spoiled {
         return false;
     }
-    if PLACES <= slot.last {
+    if MOST_SEGMENTS <= slot.last {
         return false;
     }
     slot.held / bit(slot.last) < 2

@@ -4,7 +4,7 @@ use Prim.Native.Nat.{ℕ, _-_, _≤_}
 use mathlib.Core.Path.{_≡_, refl, ap, _∙_}
 use mathlib.Core.Logic.{⊎-elim}
 use denote.Ref.{now}
-use Rattle.slots.specs.Segment.{mostSegments}
+use Rattle.segments.specs.Segment.{mostSegments}
 use Rattle.slots.specs.Slots.{allBelow}
 use Rattle.slots.proofs.Keeps.{clean}
 use Rattle.slots.proofs.Leaves.{all-held, all-zeros, all-less}

@@ -1,0 +1,154 @@
+-- Read after write, and write after read. Assumes nothing.
+use mathlib.Core.Path.{_≡_, sym, ap, ap₂, _∙_, subst}
+use mathlib.Core.Bool.{true}
+use mathlib.Core.List.{List, _++_}
+use Prim.Native.Nat.{ℕ, _*_, _≤_}
+use native.Mathlib.Omega.{arith}
+use lib.ListN.{length, take, drop}
+use lib.Seq.{take-at, take-append-seam}
+use Rattle.octets.specs.Bits.{Bytes}
+use Rattle.meaning.specs.declared.Kind.{Kind}
+use Rattle.meaning.specs.declared.Read.{Read}
+use Rattle.meaning.specs.declared.Read.the-variants.{Listed}
+use Rattle.meaning.specs.Sizes.{longestChunk, longestListing}
+use Rattle.meaning.specs.Numbers.{readLength}
+use Rattle.meaning.specs.Lists.{FicList}
+use Rattle.meaning.specs.Layout.{wire, Carries}
+use Rattle.meaning.specs.Listing.{listing}
+use Rattle.meaning.specs.Listed.{listingFits, listSaid}
+use Rattle.meaning.specs.Plain.{plain, Fits, plainLength, Oldest}
+use Rattle.meaning.specs.Reading.{ReadSays}
+use Rattle.meaning.proofs.Complete.{carried-accepted}
+use Rattle.meaning.proofs.Answers.{carried-says}
+use Rattle.meaning.proofs.Listed.{listing-fitting, said-listing, listing-said, said-fitting}
+use Rattle.meaning.proofs.Plain.{length-plain, plain-carried, bytes-carried, carried-fitting, carried-room, stuffed-carried, oldest-plain}
+use Rattle.segments.specs.Segment.{segmentBytes}
+use Rattle.segments.specs.Cut.{segmentsFor, Choice, joined}
+use Rattle.writer.specs.declared.Written.the-variants.{Segments}
+use Rattle.writer.specs.Writing.{shortestOutput, plainly, segmentsOf, writeAnswer, writeOutput, WriteSays}
+use Rattle.writer.proofs.Answers.{checks-written, says-written}
+use Rattle.writer.proofs.Sent.{plainly-suits}
+use Rattle.writer.proofs.Outputs.{length-segmentsOf, segmentsOf-whole}
+use Rattle.desk.specs.declared.Desk.{Desk}
+use Rattle.gatherings.specs.Deliveries.{AtStart, delivered, Comes, segmentsIn, payloadsOf, listedBy}
+use Rattle.gatherings.proofs.Payloads.{segments-found, payloads-cut}
+use Rattle.gatherings.proofs.InOrder.{cut-delivered}
+
+-- ---- the segments of a list that fits, and is not too long
+
+module _ (k : Kind) (l : FicList) (fits : Fits l) (room : plainLength l ≤ longestChunk) where
+  abbrev chunk : List ℕ
+  chunk = wire (plain k l)
+
+  abbrev choice : Choice
+  choice = plainly (length chunk)
+
+  abbrev count : ℕ
+  count = segmentsFor (plainLength l)
+
+  carried : Carries chunk k 0 l
+  carried = plain-carried k l fits room
+
+  chunk-bytes : Bytes chunk
+  chunk-bytes = bytes-carried carried
+
+  -- the chunk with its stuffing carries the list too
+  stuffed : Carries (chunk ++ choice .fill) k 0 l
+  stuffed =
+      let suits = plainly-suits chunk in
+      stuffed-carried carried (choice .fill) (suits .bytes) (omega (arith, suits .whole, length-plain k l fits))
+
+  pub segments-delivered : (d : Desk) → AtStart d → (first second : List ℕ) → longestListing ≤ length first → longestListing ≤ length second → Comes k (listing l) (segmentsFor (plainLength l)) (d .marks .swapped) first second (delivered d (segmentsOf k l) first second)
+  unfolding segmentsOf
+  segments-delivered d start first second one other =
+      let long = length-plain k l fits in
+      subst (λ (n : ℕ). Comes k (listing l) (segmentsFor n) (d .marks .swapped) first second (delivered d (segmentsOf k l) first second)) long
+      (cut-delivered chunk k 0 l choice chunk-bytes (omega arith) (omega arith) (plainly-suits chunk) (carried-accepted stuffed) d start first second one other)
+
+  -- ---- its listing, written
+
+  module _ (output : List ℕ) (space : shortestOutput ≤ length output) where
+    said : listSaid (listing l) ≡ l
+    said = said-listing l fits
+
+    written : let s = segmentsOf k l in WriteSays (listing l) k output (Segments (length s)) (joined s ++ drop (segmentBytes * length s) output)
+    written =
+        let fine = checks-written (listing l) output space (listing-fitting l fits) (subst (λ (m : FicList). plainLength m ≤ longestChunk) (sym said) room) in
+        subst (λ (m : FicList). let s = segmentsOf k m in WriteSays (listing l) k output (Segments (length s)) (joined s ++ drop (segmentBytes * length s) output)) said
+        (says-written (listing l) k output fine)
+
+    pub written-count : writeAnswer (listing l) k output ≡ Segments (segmentsFor (plainLength l))
+    written-count = sym (written .answers) ∙ ap Segments (length-segmentsOf k l fits)
+
+    pub written-segments : segmentsIn (segmentsFor (plainLength l)) (writeOutput (listing l) k output) ≡ segmentsOf k l
+    written-segments =
+        let s = segmentsOf k l in
+        ap₂ segmentsIn (sym (length-segmentsOf k l fits)) (sym (written .leaves))
+        ∙ segments-found s (drop (segmentBytes * length s) output) (segmentsOf-whole k l fits room)
+
+    pub written-payloads : payloadsOf (segmentsIn (segmentsFor (plainLength l)) (writeOutput (listing l) k output)) ≡ wire (plain k l) ++ plainly (length (wire (plain k l))) .fill
+    written-payloads =
+        ap payloadsOf written-segments
+        ∙ unfold segmentsOf in payloads-cut chunk choice chunk-bytes (plainly-suits chunk) (omega (arith, length-plain k l fits))
+
+    -- given whole to the reader, they are the listing again
+    pub payloads-read : (before : List ℕ) → longestListing ≤ length before → ReadSays (payloadsOf (segmentsIn (segmentsFor (plainLength l)) (writeOutput (listing l) k output))) before (Listed k 0 (length (listing l))) (listing l ++ drop (length (listing l)) before)
+    payloads-read before long =
+        subst (λ (xs : List ℕ). ReadSays xs before (Listed k 0 (length (listing l))) (listing l ++ drop (length (listing l)) before)) (sym written-payloads)
+        (carried-says stuffed before long)
+
+-- ---- read after write, for a well formed listing
+
+module _ (xs : List ℕ) (k : Kind) (output : List ℕ) (bytes : Bytes xs) (fits : listingFits xs ≡ true) (room : plainLength (listSaid xs) ≤ longestChunk) (space : shortestOutput ≤ length output) where
+  abbrev l : FicList
+  l = listSaid xs
+
+  abbrev n : ℕ
+  n = segmentsFor (plainLength l)
+
+  held : Fits l
+  held = said-fitting xs bytes fits
+
+  same : listing l ≡ xs
+  same = listing-said xs bytes fits
+
+  pub written-so-many : writeAnswer xs k output ≡ Segments (segmentsFor (plainLength (listSaid xs)))
+  written-so-many = subst (λ (ys : List ℕ). writeAnswer ys k output ≡ Segments n) same (written-count k l held room output space)
+
+  pub read-after-write : (d : Desk) → AtStart d → (first second : List ℕ) → longestListing ≤ length first → longestListing ≤ length second → let n = segmentsFor (plainLength (listSaid xs)) in Comes k xs n (d .marks .swapped) first second (delivered d (segmentsIn n (writeOutput xs k output)) first second)
+  read-after-write d start first second one other =
+      subst (λ (ys : List ℕ). Comes k ys n (d .marks .swapped) first second (delivered d (segmentsIn n (writeOutput ys k output)) first second)) same
+      (subst (λ (s : List (List ℕ)). Comes k (listing l) n (d .marks .swapped) first second (delivered d s first second)) (sym (written-segments k l held room output space))
+      (segments-delivered k l held room d start first second one other))
+
+  pub read-whole-after-write : (before : List ℕ) → longestListing ≤ length before → ReadSays (payloadsOf (segmentsIn (segmentsFor (plainLength (listSaid xs))) (writeOutput xs k output))) before (Listed k 0 (length xs)) (xs ++ drop (length xs) before)
+  read-whole-after-write before long =
+      subst (λ (ys : List ℕ). ReadSays (payloadsOf (segmentsIn n (writeOutput ys k output))) before (Listed k 0 (length ys)) (ys ++ drop (length ys) before)) same
+      (payloads-read k l held room output space before long)
+
+-- ---- write after read, for a chunk of the oldest edition
+
+module _ {ys : List ℕ} {k : Kind} {m : ℕ} {l : FicList} (h : Carries ys k m l) where
+  carried-listed : (buffer : List ℕ) → longestListing ≤ length buffer → listedBy ys buffer ≡ listing l
+  carried-listed buffer long =
+      let s = carried-says h buffer long in
+      ap₂ (λ (r : Read) (t : List ℕ). take (readLength r) t) (sym (s .answers)) (sym (s .leaves)) ∙ take-append-seam (listing l) (drop (length (listing l)) buffer)
+
+  pub carried-short : plainLength l ≤ longestChunk
+  carried-short = omega (arith, carried-room h, h .allowed .room, ap length (h .bytes))
+
+  pub write-after-read : Oldest (h .chunk) → (buffer output : List ℕ) → longestListing ≤ length buffer → shortestOutput ≤ length output → let n = segmentsFor (plainLength l) in (writeAnswer (listedBy ys buffer) k output ≡ Segments n) × (take (plainLength l) (payloadsOf (segmentsIn n (writeOutput (listedBy ys buffer) k output))) ≡ take (plainLength l) ys) × (ys ≡ take (plainLength l) ys ++ h .chunk .stuffing)
+  write-after-read oldest buffer output long space =
+      let fits = carried-fitting h in
+      let n : ℕ = segmentsFor (plainLength l) in
+      let w : List ℕ = wire (plain k l) in
+      let size = length-plain k l fits in
+      let own : ys ≡ w ++ h .chunk .stuffing = oldest-plain h oldest in
+      let front : take (plainLength l) ys ≡ w = ap (take (plainLength l)) own ∙ take-at w (h .chunk .stuffing) (plainLength l) size in
+      let back : take (plainLength l) (payloadsOf (segmentsIn n (writeOutput (listing l) k output))) ≡ w =
+      ap (take (plainLength l)) (written-payloads k l fits carried-short output space) ∙ take-at w (plainly (length w) .fill) (plainLength l) size in
+      let listed = sym (carried-listed buffer long) in (
+        subst (λ (xs : List ℕ). writeAnswer xs k output ≡ Segments n) listed (written-count k l fits carried-short output space),
+        subst (λ (xs : List ℕ). take (plainLength l) (payloadsOf (segmentsIn n (writeOutput xs k output))) ≡ take (plainLength l) ys) listed (back ∙ sym front),
+        own ∙ ap (λ (t : List ℕ). t ++ h .chunk .stuffing) (sym front),
+      )

@@ -1,0 +1,62 @@
+-- A gathering: segment calls one after the other, and the segments that stand in a writer's output.
+use Prim.Native.Nat.{ℕ, zero, suc}
+use mathlib.Core.Path.{_≡_}
+use mathlib.Core.Bool.{Bool}
+use mathlib.Core.List.{List, [], _∷_, _++_, flatMap}
+use lib.ListN.{length, take, drop}
+use Rattle.meaning.specs.declared.Kind.{Kind}
+use Rattle.meaning.specs.Numbers.{readLength}
+use Rattle.meaning.specs.Reading.{readAnswer, readBuffer}
+use Rattle.segments.specs.Segment.{segmentBytes, payloadIn}
+use Rattle.slots.specs.declared.Answer.{Answer}
+use Rattle.slots.specs.declared.Answer.the-variants.{Missing, Listed}
+use Rattle.desk.specs.declared.Desk.{Desk}
+use Rattle.desk.specs.Desks.{otherKind, lentFor, newGathering, segmentAfter, shown}
+
+-- the desk stands at the beginning of a gathering: a new one would change nothing
+abbrev pub AtStart : Desk → Type 0
+AtStart d = newGathering d ≡ d
+
+-- the answers in order, then the desk and both buffers
+pub record Told : Type 0 where
+  pub answers : List Answer
+  pub desk : Desk
+  pub first : List ℕ
+  pub second : List ℕ
+
+-- segments given to the desk one after the other, the same two buffers lent to each call
+unfoldable pub delivered : Desk → List (List ℕ) → List ℕ → List ℕ → Told
+delivered d [] first second = record { answers = []; desk = d; first = first; second = second }
+delivered d (xs ∷ more) first second =
+    let r = segmentAfter d xs first second in
+    let t = delivered (r .desk) more (r .first) (r .second) in
+    record { answers = r .answer ∷ t .answers; desk = t .desk; first = t .first; second = t .second }
+
+-- missing n - 1, …, missing 1, list: the answers to n segments that make one chunk, in order
+unfoldable pub countdown : Kind → ℕ → ℕ → List Answer
+countdown k size zero = []
+countdown k size (suc zero) = Listed k size ∷ []
+countdown k size (suc (suc n)) = Missing (suc n) ∷ countdown k size (suc n)
+
+-- what n segments that make one chunk of the kind k come to, its listing being xs; swapped tells the buffers' roles
+pub record Comes (k : Kind) (xs : List ℕ) (n : ℕ) (swapped : Bool) (first second : List ℕ) (t : Told) : Type 0 where
+  -- the answers count down to the list
+  pub answers : t .answers ≡ countdown k (length xs) n
+  -- that kind's buffer begins with the listing, and no other byte of either buffer has changed
+  pub own : lentFor k swapped (t .first) (t .second) ≡ xs ++ drop (length xs) (lentFor k swapped first second)
+  pub other : lentFor (otherKind k) swapped (t .first) (t .second) ≡ lentFor (otherKind k) swapped first second
+  -- and the listing is shown
+  pub shows : shown k (t .desk) (t .first) (t .second) ≡ xs
+
+-- the first n segments that stand in an output
+unfoldable pub segmentsIn : ℕ → List ℕ → List (List ℕ)
+segmentsIn zero output = []
+segmentsIn (suc n) output = take segmentBytes output ∷ segmentsIn n (drop segmentBytes output)
+
+-- the payloads of some segments, joined
+abbrev pub payloadsOf : List (List ℕ) → List ℕ
+payloadsOf segments = flatMap payloadIn segments
+
+-- what the reader leaves of a chunk, up to the length that it answers
+abbrev pub listedBy : List ℕ → List ℕ → List ℕ
+listedBy chunk buffer = take (readLength (readAnswer chunk buffer)) (readBuffer chunk buffer)

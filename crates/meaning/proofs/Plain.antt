@@ -1,0 +1,247 @@
+-- The chunk that the oldest edition sends: it carries its list in the fewest bytes, it may be stuffed, and a chunk of the oldest edition is
+-- that one with its stuffing. Assumes nothing.
+use mathlib.Core.Path.{_≡_, refl, sym, ap, ap₂, _∙_, subst}
+use mathlib.Core.List.{List, [], _∷_, _++_, map, flatMap, append-assoc, map-append}
+use Prim.Native.Nat.{ℕ, zero, suc, _+_, _*_, _≤_, _<_}
+use native.Mathlib.Omega.{arith}
+use lib.ListN.{length, length-append, length-map, drop-of-length-le}
+use Rattle.octets.specs.Bits.{Field, InWidth, Held, run, Bytes, bytesOf}
+use Rattle.octets.specs.Each.{Each}
+use Rattle.octets.proofs.Laws.{each-append, each-join, each-left, each-right, each-map, held-rows, bytes-made, makes-run, bytes-bytesOf}
+use Rattle.meaning.specs.declared.Kind.{Kind}
+use Rattle.meaning.specs.declared.Kind.the-variants.{This, Next}
+use Rattle.meaning.specs.Sizes.{longestChunk, ensembleBytes, serviceBytes}
+use Rattle.meaning.specs.Lists.{Ensemble, FicList, kindOf, currentOf, servicesOf}
+use Rattle.meaning.specs.Layout.{ServiceRow, serviceFields, EnsembleRow, ensembleFields, Chunk, chunkFields, wire, serviceOf, ensembleOf, listOf, Carries}
+use Rattle.meaning.specs.Plain.{plainService, plainEnsemble, plain, Fits, plainLength, Oldest}
+use Rattle.meaning.proofs.Rows.{serviceRow, ensembleRow, chunkRow, chunk-makes, wire-row}
+use Rattle.meaning.proofs.Complete.{Extended, services-length, Widened, services-held, ensembles-held, carried-accepted}
+use Rattle.meaning.proofs.Lengths.{list-room}
+
+-- ---- the two kinds
+
+kind-current : (k : Kind) → kindOf (currentOf k) ≡ k
+kind-current This = refl
+kind-current Next = refl
+
+pub current-kind : (n : ℕ) → n < 2 → currentOf (kindOf n) ≡ n
+current-kind zero h = refl
+current-kind (suc zero) h = refl
+current-kind (suc (suc n)) h = absurd (omega arith)
+
+pub plain-held : (k : Kind) (l : FicList) → Fits l → Held (chunkFields (plain k l))
+unfolding chunkFields
+plain-held This l h = h
+plain-held Next l h = each-join InWidth 8 (chunkFields (plain Next l)) (omega arith) (h .1 .1 .1 .1 .1 .1 .1 .1)
+
+-- ---- how long it is
+
+length-ensembles : (es : List Ensemble) → length (flatMap ensembleRow (map plainEnsemble es)) ≡ ensembleBytes * length es + serviceBytes * length (flatMap (λ e. e .services) es)
+unfolding flatMap ensembleRow
+length-ensembles [] = refl
+length-ensembles (e ∷ es) =
+    omega (
+      arith,
+      length-append (flatMap serviceRow (map plainService (e .services))) (flatMap ensembleRow (map plainEnsemble es)),
+      length-append (e .services) (flatMap (λ x. x .services) es),
+      services-length 0 (map plainService (e .services)) (each-map (Extended 0) plainService (λ v. refl) (e .services)),
+      length-map (e .services) plainService,
+      length-ensembles es,
+    )
+
+pub length-plain : (k : Kind) (l : FicList) → Fits l → length (wire (plain k l)) ≡ plainLength l
+unfolding chunkRow servicesOf
+length-plain k l h =
+    let rows : List ℕ = flatMap ensembleRow (map plainEnsemble (l .ensembles)) in
+    omega (arith, ap length (wire-row (plain k l) (plain-held k l h)), length-append rows [], length-ensembles (l .ensembles))
+
+-- ---- it carries its list
+
+-- a function that undoes another undoes it in a list
+map-undone : {A B : Type 0} (g : B → A) (f : A → B) → ((a : A) → g (f a) ≡ a) → (rs : List A) → map g (map f rs) ≡ rs
+map-undone g f h [] = refl
+map-undone g f h (a ∷ rs) = ap₂ _∷_ (h a) (map-undone g f h rs)
+
+ensemble-plain : (e : Ensemble) → ensembleOf (plainEnsemble e) ≡ e
+ensemble-plain e =
+    let services = map-undone serviceOf plainService (λ v. refl) (e .services) in
+    λ i. record { id = e .id; slt = e .slt; gat = e .gat; eat = e .eat; channel = e .channel; services = services i }
+
+list-plain : (k : Kind) (l : FicList) → listOf (plain k l) ≡ l
+list-plain k l =
+    let ensembles = map-undone ensembleOf plainEnsemble ensemble-plain (l .ensembles) in
+    λ i. record { stream = l .stream; ensembles = ensembles i }
+
+pub plain-carried : (k : Kind) (l : FicList) → Fits l → plainLength l ≤ longestChunk → Carries (wire (plain k l)) k 0 l
+plain-carried k l h r =
+    record {
+      chunk = plain k l;
+      allowed =
+          record {
+            held = plain-held k l h;
+            header = refl;
+            loops = each-map (Widened 0 0) plainEnsemble (λ e. (refl, each-map (Extended 0) plainService (λ v. refl) (e .services))) (l .ensembles);
+            room = omega (arith, length-plain k l h);
+          };
+      bytes = refl;
+      major = refl;
+      versions = each-map (λ x. x .version ≡ 0) plainEnsemble (λ e. refl) (l .ensembles);
+      kind = kind-current k;
+      minor = refl;
+      list = list-plain k l;
+    }
+
+-- ---- what is carried
+
+pub bytes-carried : {xs : List ℕ} {k : Kind} {m : ℕ} {l : FicList} → Carries xs k m l → Bytes xs
+unfolding wire
+bytes-carried h = subst (λ (t : List ℕ). Bytes t) (h .bytes) (bytes-bytesOf (chunkFields (h .chunk)))
+
+pub carried-room : {xs : List ℕ} {k : Kind} {m : ℕ} {l : FicList} → Carries xs k m l → plainLength l ≤ length xs
+carried-room {xs} h =
+    let a = carried-accepted h in
+    subst (λ (t : FicList). plainLength t ≤ length xs) (a .list) (list-room xs (a .passes))
+
+-- the rows of a loop made anew from what they carry: as many, and each fits still
+length-map-map : {A B : Type 0} (f : B → A) (g : A → B) (rs : List A) → length (map f (map g rs)) ≡ length rs
+length-map-map f g rs = length-map (map g rs) f ∙ length-map rs g
+
+service-fits : (v : ServiceRow) → Held (serviceFields v) → Held (serviceFields (plainService (serviceOf v)))
+unfolding serviceFields
+service-fits v h = each-join InWidth 5 (serviceFields (plainService (serviceOf v))) (omega arith) tt
+
+ensemble-fits : (x : EnsembleRow) → Held (ensembleFields x) → Held (ensembleFields (plainEnsemble (ensembleOf x)))
+unfolding ensembleFields
+ensemble-fits x h =
+    let held = services-held x h in
+    each-join InWidth 7 (ensembleFields (plainEnsemble (ensembleOf x))) (omega arith)
+    (omega (arith, length-map-map plainService serviceOf (x .services)), held-rows serviceFields plainService serviceOf service-fits (x .services) (held .1))
+
+pub carried-fitting : {xs : List ℕ} {k : Kind} {m : ℕ} {l : FicList} → Carries xs k m l → Fits l
+unfolding chunkFields
+carried-fitting h =
+    let c = h .chunk in
+    let own = h .allowed .held in
+    let held = ensembles-held c (h .allowed) in
+    let rows : List EnsembleRow = map plainEnsemble (map ensembleOf (c .ensembles)) in
+    let fits : Held (flatMap ensembleFields rows) = held-rows ensembleFields plainEnsemble ensembleOf ensemble-fits (c .ensembles) (held .1) in
+    subst (λ (t : FicList). Fits t) (h .list)
+    (each-join InWidth 8 (chunkFields (plain This (listOf c))) (omega arith)
+    (omega (arith, length-map-map plainEnsemble ensembleOf (c .ensembles)), each-append InWidth (flatMap ensembleFields rows) [] fits tt))
+
+-- ---- stuffing
+
+abbrev stuffed : Chunk → List ℕ → Chunk
+stuffed c fill =
+    record {
+      major = c .major;
+      minor = c .minor;
+      h = c .h;
+      e = c .e;
+      s = c .s;
+      reserved = c .reserved;
+      current = c .current;
+      stream = c .stream;
+      extension = c .extension;
+      ensembles = c .ensembles;
+      stuffing = c .stuffing ++ fill;
+    }
+
+fields-stuffed : (c : Chunk) (fill : List ℕ) → chunkFields (stuffed c fill) ≡ chunkFields c ++ run fill
+unfolding chunkFields
+fields-stuffed c fill = simp (map-append, append-assoc) refl
+
+wire-stuffed : (c : Chunk) (fill : List ℕ) → Held (chunkFields c ++ run fill) → wire (stuffed c fill) ≡ wire c ++ fill
+unfolding wire
+wire-stuffed c fill h =
+    let own = each-left InWidth (chunkFields c) (run fill) h in
+    ap bytesOf (fields-stuffed c fill)
+    ∙ chunk-makes c .made own (run fill)
+    ∙ ap₂ _++_ (sym (wire-row c own)) (bytes-made (makes-run fill) (each-right InWidth (chunkFields c) (run fill) h))
+
+pub stuffed-carried : {xs : List ℕ} {k : Kind} {m : ℕ} {l : FicList} → Carries xs k m l → (fill : List ℕ) → Bytes fill → length (xs ++ fill) ≤ longestChunk → Carries (xs ++ fill) k m l
+stuffed-carried {xs} h fill b r =
+    let c = h .chunk in
+    let held : Held (chunkFields c ++ run fill) = each-append InWidth (chunkFields c) (run fill) (h .allowed .held) b in
+    let bytes : wire (stuffed c fill) ≡ xs ++ fill = wire-stuffed c fill held ∙ ap (λ (t : List ℕ). t ++ fill) (h .bytes) in
+    record {
+      chunk = stuffed c fill;
+      allowed =
+          record {
+            held = subst (λ (fs : List Field). Held fs) (sym (fields-stuffed c fill)) held;
+            header = h .allowed .header;
+            loops = h .allowed .loops;
+            room = omega (arith, ap length bytes);
+          };
+      bytes = bytes;
+      major = h .major;
+      versions = h .versions;
+      kind = h .kind;
+      minor = h .minor;
+      list = h .list;
+    }
+
+-- ---- the oldest edition: with no extensions and all reserved bits ones, a row is the plain row of what it carries
+
+nil-of-length : (n : ℕ) (ys : List ℕ) → n ≡ 0 → length ys ≡ n → ys ≡ []
+nil-of-length n ys z e = drop-of-length-le ys {i = 0} (omega arith)
+
+services-oldest : (s : ℕ) (vs : List ServiceRow) → s ≡ 0 → Each (Extended s) vs → Each (λ v. v .reserved ≡ 7) vs → vs ≡ map plainService (map serviceOf vs)
+services-oldest s [] z x r = refl
+services-oldest s (v ∷ vs) z x r =
+    let extension = nil-of-length s (v .extension) z (x .0) in
+    let more = services-oldest s vs z (x .1) (r .1) in
+    λ i. record { id = v .id; reserved = r .0 i; multi = v .multi; status = v .status; sp = v .sp; extension = extension i } ∷ more i
+
+ensembles-oldest : (c : Chunk) (o : Oldest c) (xs : List EnsembleRow) → Each (Widened (c .e) (c .s)) xs → Each (λ x. x .version ≡ 0) xs → Each (λ x. (x .reserved ≡ 7) × Each (λ v. v .reserved ≡ 7) (x .services)) xs → xs ≡ map plainEnsemble (map ensembleOf xs)
+ensembles-oldest c o [] w v r = refl
+ensembles-oldest c o (x ∷ xs) w v r =
+    let extension = nil-of-length (c .e) (x .extension) (o .ensemble) (w .0 .0) in
+    let services = services-oldest (c .s) (x .services) (o .service) (w .0 .1) (r .0 .1) in
+    let more = ensembles-oldest c o xs (w .1) (v .1) (r .1) in
+    λ i.
+    record {
+      id = x .id;
+      reserved = r .0 .0 i;
+      version = v .0 i;
+      slt = x .slt;
+      gat = x .gat;
+      eat = x .eat;
+      channel = x .channel;
+      extension = extension i;
+      services = services i;
+    }
+    ∷ more i
+
+chunk-oldest : {xs : List ℕ} {k : Kind} {m : ℕ} {l : FicList} (h : Carries xs k m l) → Oldest (h .chunk) → h .chunk ≡ stuffed (plain k l) (h .chunk .stuffing)
+unfolding chunkFields
+chunk-oldest h o =
+    let c = h .chunk in
+    let held = h .allowed .held in
+    let current = sym (current-kind (c .current) (omega arith)) ∙ ap currentOf (h .kind) in
+    let extension = nil-of-length (c .h) (c .extension) (o .header) (h .allowed .header) in
+    let ensembles =
+    ensembles-oldest c o (c .ensembles) (h .allowed .loops) (h .versions) (o .loops)
+    ∙ ap (λ (t : FicList). map plainEnsemble (t .ensembles)) (h .list) in
+    λ i.
+    record {
+      major = h .major i;
+      minor = o .minor i;
+      h = o .header i;
+      e = o .ensemble i;
+      s = o .service i;
+      reserved = o .reserved i;
+      current = current i;
+      stream = h .list i .stream;
+      extension = extension i;
+      ensembles = ensembles i;
+      stuffing = c .stuffing;
+    }
+
+pub oldest-plain : {xs : List ℕ} {k : Kind} {m : ℕ} {l : FicList} (h : Carries xs k m l) → Oldest (h .chunk) → xs ≡ wire (plain k l) ++ h .chunk .stuffing
+oldest-plain {k = k} {l = l} h o =
+    let fill = h .chunk .stuffing in
+    let same = chunk-oldest h o in
+    sym (h .bytes)
+    ∙ ap wire same
+    ∙ wire-stuffed (plain k l) fill (subst (λ (fs : List Field). Held fs) (ap chunkFields same ∙ fields-stuffed (plain k l) fill) (h .allowed .held))

@@ -1,0 +1,4 @@
+pub mod Heads
+pub mod Checks
+pub mod Places
+pub mod Cut

@@ -1,0 +1,106 @@
+-- What the writer's promise comes to, refusal by refusal and for a listing that is written. Assumes nothing.
+use mathlib.Core.Path.{_≡_, refl, sym, ap, _∙_}
+use mathlib.Core.Bool.{true, false, not}
+use mathlib.Core.List.{List, [], _∷_, _++_}
+use Prim.Native.Nat.{ℕ, _*_, _≤_, _<_}
+use native.Mathlib.Omega.{arith}
+use borrow.Author.Tests.{lt-ltb, le-ltb, ltb-false, not-false}
+use lib.Dec.{T, ltb}
+use lib.ListN.{length, drop}
+use Rattle.meaning.specs.declared.Kind.{Kind}
+use Rattle.meaning.specs.declared.Refusal.{Refusal}
+use Rattle.meaning.specs.declared.Refusal.the-variants.{ShortBuffer, BadListing, TooMany}
+use Rattle.meaning.specs.declared.Checked.{Checked}
+use Rattle.meaning.specs.declared.Checked.the-variants.{Fine, Fault}
+use Rattle.meaning.specs.Sizes.{longestChunk}
+use Rattle.meaning.specs.Numbers.{numberOf, among}
+use Rattle.meaning.specs.Listed.{listingFits, listSaid}
+use Rattle.meaning.specs.Plain.{plainLength}
+use Rattle.meaning.proofs.Checks.{check-passed}
+use Rattle.meaning.proofs.Answers.{Among, among-fine, among-check}
+use Rattle.segments.specs.Segment.{segmentBytes}
+use Rattle.segments.specs.Cut.{joined}
+use Rattle.writer.specs.declared.Written.{Written}
+use Rattle.writer.specs.declared.Written.the-variants.{Segments, Refused}
+use Rattle.writer.specs.Writing.{shortestOutput, writtenNumber, writtenCount, segmentsOf, writeChecks, writtenFor, writeAnswer, leftBy, writeOutput, WriteSays}
+
+-- ---- the checks, one after the other
+
+module _ (xs output : List ℕ) where
+  pub checks-short : length output < shortestOutput → writeChecks xs output ≡ Fault ShortBuffer
+  checks-short h = simp (lt-ltb _ _ h)
+
+  module _ (room : shortestOutput ≤ length output) where
+    pub checks-bad : listingFits xs ≡ false → writeChecks xs output ≡ Fault BadListing
+    checks-bad b = simp (le-ltb _ _ room, b)
+
+    module _ (fits : listingFits xs ≡ true) where
+      pub checks-many : longestChunk < plainLength (listSaid xs) → writeChecks xs output ≡ Fault TooMany
+      checks-many h = simp (le-ltb _ _ room, fits, lt-ltb _ _ h)
+
+      pub checks-written : plainLength (listSaid xs) ≤ longestChunk → writeChecks xs output ≡ Fine
+      checks-written h = simp (le-ltb _ _ room, fits, le-ltb _ _ h)
+
+-- a listing that passed them all
+checks-passed : (xs output : List ℕ) → writeChecks xs output ≡ Fine → (listingFits xs ≡ true) × (plainLength (listSaid xs) ≤ longestChunk)
+checks-passed xs output e =
+    let short = check-passed (ltb (length output) shortestOutput) ShortBuffer _ e in
+    let bad = check-passed (not (listingFits xs)) BadListing _ (short .1) in
+    let many = check-passed (ltb longestChunk (plainLength (listSaid xs))) TooMany Fine (bad .1) in
+    (not-false (listingFits xs) (bad .0), ltb-false _ _ (many .0))
+
+-- ---- the numbers
+
+abbrev numbers : List ℕ
+numbers = 1 ∷ 13 ∷ 14 ∷ []
+
+checks-among : (xs output : List ℕ) → Among numbers (writeChecks xs output)
+checks-among xs output =
+    among-check numbers (ltb (length output) shortestOutput) ShortBuffer _ tt
+    (among-check numbers (not (listingFits xs)) BadListing _ tt
+    (among-check numbers (ltb longestChunk (plainLength (listSaid xs))) TooMany Fine tt (among-fine numbers)))
+
+-- ---- the promise
+
+module _ (xs : List ℕ) (k : Kind) (before : List ℕ) where
+  -- an answer that is the right one leaves what the right one leaves
+  says : {answer : Written} → answer ≡ writeAnswer xs k before → WriteSays xs k before answer (leftBy answer xs k before)
+  unfolding writeOutput
+  says e = record { answers = e; leaves = ap (λ (r : Written). leftBy r xs k before) e }
+
+  pub says-refused : {f : Refusal} → writeChecks xs before ≡ Fault f → WriteSays xs k before (Refused f) before
+  unfolding writeAnswer
+  says-refused e = says (sym (ap (λ (v : Checked). writtenFor v xs k) e))
+
+  pub says-written : writeChecks xs before ≡ Fine → let s = segmentsOf k (listSaid xs) in WriteSays xs k before (Segments (length s)) (joined s ++ drop (segmentBytes * length s) before)
+  unfolding writeAnswer
+  says-written e = says (sym (ap (λ (v : Checked). writtenFor v xs k) e))
+
+  -- two results that keep the promise are one
+  pub says-once : {a b : Written} {p q : List ℕ} → WriteSays xs k before a p → WriteSays xs k before b q → (a ≡ b) × (p ≡ q)
+  says-once s t = (s .answers ∙ sym (t .answers), s .leaves ∙ sym (t .leaves))
+
+  -- a refusal is one of three numbers, with no segment, and writes nothing
+  pub refused-says : {f : Refusal} {after : List ℕ} → WriteSays xs k before (Refused f) after → T (among (1 ∷ 13 ∷ 14 ∷ []) (writtenNumber (Refused f))) × (writtenCount (Refused f) ≡ 0) × (after ≡ before)
+  unfolding writeAnswer writeOutput
+  refused-says {f} s = (
+    go (writeChecks xs before) (checks-among xs before) (sym (s .answers)),
+    refl,
+    s .leaves ∙ ap (λ (r : Written). leftBy r xs k before) (sym (s .answers)),
+  )
+    where
+      go : (v : Checked) → Among numbers v → writtenFor v xs k ≡ Refused f → T (among numbers (numberOf f))
+      go Fine a p = let z : _≡_ {A = ℕ} 0 1 = cc in absurd (omega arith)
+      go (Fault g) a p = let same : g ≡ f = cc in a f (ap Fault same)
+
+  -- segments are of a listing that passed the checks, and stand at the start of the output
+  pub segments-says : {n : ℕ} {after : List ℕ} → WriteSays xs k before (Segments n) after → let s = segmentsOf k (listSaid xs) in (listingFits xs ≡ true) × (plainLength (listSaid xs) ≤ longestChunk) × (n ≡ length s) × (after ≡ joined s ++ drop (segmentBytes * n) before)
+  unfolding writeAnswer writeOutput
+  segments-says {n} {after} s = go (writeChecks xs before) refl (s .answers)
+    where
+      go : (v : Checked) → writeChecks xs before ≡ v → Segments n ≡ writtenFor v xs k → let s = segmentsOf k (listSaid xs) in (listingFits xs ≡ true) × (plainLength (listSaid xs) ≤ longestChunk) × (n ≡ length s) × (after ≡ joined s ++ drop (segmentBytes * n) before)
+      go Fine e p =
+          let passed = checks-passed xs before e in
+          let count : n ≡ length (segmentsOf k (listSaid xs)) = cc in
+          (passed .0, passed .1, count, s .leaves ∙ ap (λ (r : Written). leftBy r xs k before) (sym (s .answers)))
+      go (Fault f) e p = let z : _≡_ {A = ℕ} 0 1 = cc in absurd (omega arith)

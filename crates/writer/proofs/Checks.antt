@@ -1,0 +1,82 @@
+-- The checks on a listing in the code's own terms: a listing xs and a place in it, instead of what is left of the listing. Assumes nothing.
+use mathlib.Core.Path.{_≡_, refl, sym, ap, _∙_}
+use mathlib.Core.Bool.{Bool, true, false, _&&_, not, and-true}
+use mathlib.Core.List.{List, [], _∷_}
+use Prim.Native.Nat.{ℕ, zero, suc, _+_, _-_, _*_, _≤_, _<_}
+use native.Mathlib.Omega.{arith}
+use borrow.Author.Tests.{not-false, lt-leb}
+use lib.Dec.{leb, eqb}
+use lib.ListN.{length, getD, drop, length-drop}
+use lib.Seq.{getD-drop, drop-drop}
+use Rattle.octets.proofs.Laws.{getD-there}
+use Rattle.meaning.specs.Sizes.{markBytes, enBytes, svBytes, mostFlags, mostChannel, mostMulti, mostStatus, mostSP}
+use Rattle.meaning.specs.Listing.{markEN, markSV}
+use Rattle.meaning.specs.Listed.{stands, svFits, servicesFit, enFits, ensemblesFit}
+use Rattle.meaning.proofs.Counts.{leb-and, sv-room, services-room, en-room}
+
+-- ---- the tests on a record, one by one
+
+-- it has its n bytes and the mark a b
+stands-tests : (n a b : ℕ) (zs : List ℕ) → markBytes ≤ n → stands (a ∷ b ∷ []) n zs ≡ (leb n (length zs) && (eqb (getD zs 0 0) a && eqb (getD zs 1 0) b))
+stands-tests n a b [] h = simp (lt-leb n 0 (omega arith))
+stands-tests n a b (x ∷ []) h = simp (lt-leb n 1 (omega arith))
+stands-tests n a b (x ∷ y ∷ zs) h = simp and-true
+
+module _ (xs : List ℕ) (at : ℕ) where
+  pub stands-at : (n a b : ℕ) → markBytes ≤ n → stands (a ∷ b ∷ []) n (drop at xs) ≡ (leb n (length xs - at) && (eqb (getD xs at 0) a && eqb (getD xs (at + 1) 0) b))
+  stands-at n a b h = stands-tests n a b (drop at xs) h ∙ simp (length-drop at xs, getD-there xs at, getD-drop at xs 1 0)
+
+  -- a record that a test found there
+  abbrev pub Found : List ℕ → ℕ → Type 0
+  Found mark n = (n ≤ length xs - at) × (stands mark n (drop at xs) ≡ true)
+
+  pub found-at : (mark : List ℕ) (n : ℕ) {r : Bool} → r ≡ stands mark n (drop at xs) → not r ≡ false → Found mark n
+  found-at mark n {r} e h =
+      let is : stands mark n (drop at xs) ≡ true = sym e ∙ not-false r h in
+      (omega (arith, leb-and n (length (drop at xs)) is .0, length-drop at xs), is)
+
+  pub sv-tests : svFits (drop at xs) ≡ (stands markSV svBytes (drop at xs) && (leb (getD xs (at + 4) 0) mostMulti && (leb (getD xs (at + 5) 0) mostStatus && leb (getD xs (at + 6) 0) mostSP)))
+  unfolding svFits
+  sv-tests = simp (getD-drop at xs 4 0, getD-drop at xs 5 0, getD-drop at xs 6 0)
+
+  pub en-tests : enFits (drop at xs) ≡ (stands markEN enBytes (drop at xs) && (leb (getD xs (at + 3) 0) mostFlags && leb (getD xs (at + 4) 0) mostChannel))
+  unfolding enFits
+  en-tests = simp (getD-drop at xs 3 0, getD-drop at xs 4 0)
+
+  -- a record that fits is there
+  pub sv-there : svFits (drop at xs) ≡ true → at + svBytes ≤ length xs
+  sv-there h = omega (arith, sv-room (drop at xs) h, length-drop at xs)
+
+  pub en-there : enFits (drop at xs) ≡ true → at + enBytes ≤ length xs
+  en-there h = omega (arith, en-room (drop at xs) h, length-drop at xs)
+
+  -- ---- n services from the place at on
+
+  pub services-there : (n : ℕ) → at ≤ length xs → servicesFit n (drop at xs) ≡ true → at + svBytes * n ≤ length xs
+  services-there n inl h = omega (arith, services-room n (drop at xs) h, length-drop at xs)
+
+  pub services-none : (n : ℕ) → n ≤ 0 → servicesFit n (drop at xs) ≡ true
+  unfolding servicesFit
+  services-none zero z = refl
+  services-none (suc n) z = absurd (omega arith)
+
+  pub services-tests : (n : ℕ) → 0 < n → servicesFit n (drop at xs) ≡ (svFits (drop at xs) && servicesFit (n - 1) (drop (at + svBytes) xs))
+  unfolding servicesFit
+  services-tests zero z = absurd (omega arith)
+  services-tests (suc n) z =
+      let one : suc n - 1 ≡ n = omega arith in
+      rw one (ap (λ (ys : List ℕ). svFits (drop at xs) && servicesFit n ys) (drop-drop svBytes at xs))
+
+  -- ---- n ensembles from the place at on
+
+  pub ensembles-none : (n : ℕ) → n ≤ 0 → ensemblesFit n (drop at xs) ≡ eqb (length xs - at) 0
+  unfolding ensemblesFit
+  ensembles-none zero z = ap (λ (n : ℕ). eqb n 0) (length-drop at xs)
+  ensembles-none (suc n) z = absurd (omega arith)
+
+  pub ensembles-tests : (n : ℕ) → 0 < n → ensemblesFit n (drop at xs) ≡ (enFits (drop at xs) && (servicesFit (getD xs (at + 5) 0) (drop (at + enBytes) xs) && ensemblesFit (n - 1) (drop (at + enBytes + svBytes * getD xs (at + 5) 0) xs)))
+  unfolding ensemblesFit
+  ensembles-tests zero z = absurd (omega arith)
+  ensembles-tests (suc n) z =
+      let one : suc n - 1 ≡ n = omega arith in
+      rw one (simp (getD-drop at xs 5 0, drop-drop))

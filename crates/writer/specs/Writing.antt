@@ -1,0 +1,75 @@
+-- Document 01, "The writer": its checks in order, what it answers, and what it leaves in the lent output.
+use Prim.Native.Nat.{ℕ, _-_, _*_}
+use mathlib.Core.Path.{_≡_}
+use mathlib.Core.Bool.{not}
+use mathlib.Core.List.{List, _++_}
+use lib.Dec.{ltb}
+use lib.ListN.{length, drop, replicate}
+use Rattle.meaning.specs.declared.Kind.{Kind}
+use Rattle.meaning.specs.declared.Refusal.the-variants.{ShortBuffer, BadListing, TooMany}
+use Rattle.meaning.specs.declared.Checked.{Checked}
+use Rattle.meaning.specs.declared.Checked.the-variants.{Fine, Fault}
+use Rattle.meaning.specs.Sizes.{longestChunk}
+use Rattle.meaning.specs.Numbers.{numberOf}
+use Rattle.meaning.specs.Lists.{FicList}
+use Rattle.meaning.specs.Layout.{wire}
+use Rattle.meaning.specs.Listed.{listingFits, listSaid}
+use Rattle.meaning.specs.Plain.{plain, plainLength}
+use Rattle.meaning.specs.Reading.{check}
+use Rattle.segments.specs.Segment.{segmentBytes, payloadBytes}
+use Rattle.segments.specs.Cut.{segmentsFor, Choice, cut, joined}
+use Rattle.writer.specs.declared.Written.{Written}
+use Rattle.writer.specs.declared.Written.the-variants.{Segments, Refused}
+
+-- the shortest output: room for the 16 segments of the longest chunk
+abbrev pub shortestOutput : ℕ
+shortestOutput = 592
+
+-- ---- an answer in document 01's numbers: its number, 0 where it is no refusal; how many segments, 0 where it is one
+
+abbrev pub writtenNumber : Written → ℕ
+writtenNumber (Segments n) = 0
+writtenNumber (Refused f) = numberOf f
+
+abbrev pub writtenCount : Written → ℕ
+writtenCount (Segments n) = n
+writtenCount (Refused f) = 0
+
+-- ---- the segments of a list
+
+-- what the writer chooses for a chunk of n bytes: reserved bits ones, stuffing FF
+abbrev pub plainly : ℕ → Choice
+plainly n = record { reserved = λ i. 1; wake = λ i. 1; fill = replicate (payloadBytes * segmentsFor n - n) 0xFF }
+
+-- the list as the oldest edition sends it, cut
+unfoldable pub segmentsOf : Kind → FicList → List (List ℕ)
+segmentsOf k l = cut (wire (plain k l)) (plainly (length (wire (plain k l))))
+
+-- ---- the public call, on a listing xs, a kind and a lent output
+
+abbrev pub writeChecks : List ℕ → List ℕ → Checked
+writeChecks xs output =
+    check (ltb (length output) shortestOutput) ShortBuffer  -- 1
+    (check (not (listingFits xs)) BadListing  -- 13
+    (check (ltb longestChunk (plainLength (listSaid xs))) TooMany  -- 14
+    Fine))
+
+abbrev pub writtenFor : Checked → List ℕ → Kind → Written
+writtenFor Fine xs k = Segments (length (segmentsOf k (listSaid xs)))
+writtenFor (Fault f) xs k = Refused f
+
+unfoldable pub writeAnswer : List ℕ → Kind → List ℕ → Written
+writeAnswer xs k output = writtenFor (writeChecks xs output) xs k
+
+-- the segments at the start, bytes past them as they were; a refusal leaves all as it was
+abbrev pub leftBy : Written → List ℕ → Kind → List ℕ → List ℕ
+leftBy (Segments n) xs k output = joined (segmentsOf k (listSaid xs)) ++ drop (segmentBytes * n) output
+leftBy (Refused f) xs k output = output
+
+unfoldable pub writeOutput : List ℕ → Kind → List ℕ → List ℕ
+writeOutput xs k output = leftBy (writeAnswer xs k output) xs k output
+
+-- what the writer promises: of the listing xs, the kind and the output before, its answer, and the output after
+pub record WriteSays (xs : List ℕ) (k : Kind) (before : List ℕ) (answer : Written) (after : List ℕ) : Type 0 where
+  pub answers : answer ≡ writeAnswer xs k before
+  pub leaves : after ≡ writeOutput xs k before

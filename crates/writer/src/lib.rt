@@ -1,0 +1,290 @@
+// The writer: a whole listing in, the segments of its list out. All checks first, then all writing, so that a refusal writes nothing.
+use meaning::EN_RECORD;
+use meaning::ENSEMBLE;
+use meaning::HEADER;
+use meaning::Kind;
+use meaning::LONGEST_CHUNK;
+use meaning::MOST_CHANNEL;
+use meaning::MOST_FLAGS;
+use meaning::MOST_MULTI;
+use meaning::MOST_SP;
+use meaning::MOST_STATUS;
+use meaning::Refusal;
+use meaning::SERVICE;
+use meaning::SV_RECORD;
+use meaning::TS_RECORD;
+use segments::HEAD;
+use segments::PAYLOAD;
+use segments::SEGMENT;
+ghost use mathlib.Core.Path.{_≡_};
+ghost use mathlib.Core.Bool.{true};
+ghost use mathlib.Core.List.{[], _∷_};
+ghost use Prim.Native.Nat.{_+_, _*_, _≤_, _<_};
+ghost use lib.ListN.{length, drop};
+ghost use lib.Seq.{sets};
+ghost use Rattle.meaning.specs.Sizes.{ensembleBytes, serviceBytes, markBytes};
+ghost use Rattle.meaning.specs.Listed.{stands as Listed·stands, svFits, servicesFit, enFits, ensemblesFit, listingFits, countSaid, afterEN, listSaid};
+ghost use Rattle.meaning.specs.Plain.{plainLength};
+ghost use Rattle.segments.specs.Segment.{segmentBytes, payloadBytes, mostSegments};
+ghost use Rattle.writer.specs.Put.{servicePut, servicesPut, ensemblePut, ensemblesPut, chunkPut, segmentPut, segmentsPut};
+ghost use Rattle.writer.specs.Writing.{WriteSays};
+
+// What the writer answers.
+pub enum Written {
+    // so many segments now stand at the start of the output
+    Segments(usize),
+    Refused(Refusal),
+}
+
+// The shortest output: room for the 16 segments of the longest chunk.
+pub const OUTPUT: usize = 592;
+
+const STUFFING: u8 = 0xFF;
+
+// ---- the checks on a listing
+
+// Whether a record of so many bytes with this mark stands at a place of the listing.
+fn stands(listing: &[u8], at: usize, size: usize, first: u8, second: u8) -> bool
+    requires { ⌜ (at ≤ length (now listing)) × (markBytes ≤ size) ⌝ }
+    ensures { λ r. ⌜ r ≡ Listed·stands (first ∷ second ∷ []) size (drop at (now (listing .entry))) ⌝ }
+{
+    if listing.len() - at < size {
+        return false;
+    }
+    if listing[at] != first {
+        return false;
+    }
+    listing[at + 1] == second
+}
+
+// Whether a service's record stands at a place of the listing.
+fn service_fits(listing: &[u8], at: usize) -> bool
+    requires { ⌜ at ≤ length (now listing) ⌝ }
+    ensures { λ r. ⌜ r ≡ svFits (drop at (now (listing .entry))) ⌝ }
+{
+    if !stands(listing, at, SV_RECORD, b'S', b'V') {
+        return false;
+    }
+    if MOST_MULTI < listing[at + 4] {
+        return false;
+    }
+    if MOST_STATUS < listing[at + 5] {
+        return false;
+    }
+    listing[at + 6] <= MOST_SP
+}
+
+// Whether the records of count services stand from a place of the listing on.
+fn services_fit(listing: &[u8], from: usize, count: usize) -> bool
+    requires { ⌜ from ≤ length (now listing) ⌝ }
+    ensures { λ r. ⌜ r ≡ servicesFit count (drop from (now (listing .entry))) ⌝ }
+{
+    let mut at = from;
+    let mut left = count;
+    while 0 < left {
+        if !service_fits(listing, at) {
+            return false;
+        }
+        at += SV_RECORD;
+        left -= 1;
+    }
+    true
+}
+
+// Whether an ensemble's record stands at a place of the listing.
+fn ensemble_fits(listing: &[u8], at: usize) -> bool
+    requires { ⌜ at ≤ length (now listing) ⌝ }
+    ensures { λ r. ⌜ r ≡ enFits (drop at (now (listing .entry))) ⌝ }
+{
+    if !stands(listing, at, EN_RECORD, b'E', b'N') {
+        return false;
+    }
+    if MOST_FLAGS < listing[at + 3] {
+        return false;
+    }
+    listing[at + 4] <= MOST_CHANNEL
+}
+
+// Whether the records of count ensembles and their services stand from a place of the listing on, up to its end.
+fn ensembles_fit(listing: &[u8], from: usize, count: usize) -> bool
+    requires { ⌜ from ≤ length (now listing) ⌝ }
+    ensures { λ r. ⌜ r ≡ ensemblesFit count (drop from (now (listing .entry))) ⌝ }
+{
+    let mut at = from;
+    let mut left = count;
+    while 0 < left {
+        if !ensemble_fits(listing, at) {
+            return false;
+        }
+        let services = listing[at + 5] as usize;
+        let inside = at + EN_RECORD;
+        if !services_fit(listing, inside, services) {
+            return false;
+        }
+        at = inside + SV_RECORD * services;
+        left -= 1;
+    }
+    listing.len() - at == 0
+}
+
+// Whether a listing is well formed.
+pub fn listing_fits(listing: &[u8]) -> bool
+    ensures { λ r. ⌜ r ≡ listingFits (now (listing .entry)) ⌝ }
+{
+    if !stands(listing, 0, TS_RECORD, b'T', b'S') {
+        return false;
+    }
+    ensembles_fit(listing, TS_RECORD, listing[4] as usize)
+}
+
+// How many bytes the chunk of a listing has, if it is well formed: its first record and its length tell the counts of all records.
+fn chunk_length(listing: &[u8]) -> usize
+    ensures { λ r. ⌜ (listingFits (now (listing .entry)) ≡ true → r ≡ plainLength (listSaid (now (listing .entry)))) ⌝ }
+{
+    if listing.len() < TS_RECORD {
+        return 0;
+    }
+    let ensembles = listing[4] as usize;
+    let others = TS_RECORD + EN_RECORD * ensembles;
+    if listing.len() < others {
+        return 0;
+    }
+    let services = (listing.len() - others) / SV_RECORD;
+    HEADER + ENSEMBLE * ensembles + SERVICE * services
+}
+
+// ---- the chunk
+
+// Puts the service whose record is at a place of the listing at a place of the chunk.
+fn put_service(listing: &[u8], at: usize, chunk: &mut [u8], to: usize)
+    requires { ⌜ svFits (drop at (now listing)) ≡ true ⌝ }
+    requires { ⌜ to + serviceBytes ≤ length (now chunk) ⌝ }
+    ensures { λ _. ⌜ now (chunk .exit) ≡ sets (now (chunk .entry)) to (servicePut (drop at (now (listing .entry)))) ⌝ }
+{
+    let multi = listing[at + 4];
+    let status = listing[at + 5];
+    let sp = listing[at + 6];
+    chunk[to] = listing[at + 2];
+    chunk[to + 1] = listing[at + 3];
+    chunk[to + 2] = 224 + multi * 8 + status * 2 + sp;
+}
+
+// Puts count services.
+fn put_services(listing: &[u8], from: usize, count: usize, chunk: &mut [u8], start: usize)
+    requires { ⌜ servicesFit count (drop from (now listing)) ≡ true ⌝ }
+    requires { ⌜ start + serviceBytes * count ≤ length (now chunk) ⌝ }
+    ensures { λ _. ⌜ now (chunk .exit) ≡ sets (now (chunk .entry)) start (servicesPut count (drop from (now (listing .entry)))) ⌝ }
+{
+    let mut at = from;
+    let mut to = start;
+    let mut left = count;
+    while 0 < left {
+        put_service(listing, at, chunk, to);
+        at += SV_RECORD;
+        to += SERVICE;
+        left -= 1;
+    }
+}
+
+// Puts the ensemble whose record is at a place of the listing, then its services; how many services there are.
+fn put_ensemble(listing: &[u8], at: usize, chunk: &mut [u8], to: usize) -> usize
+    requires { ⌜ enFits (drop at (now listing)) ≡ true ⌝ }
+    requires { ⌜ servicesFit (countSaid (drop at (now listing))) (afterEN (drop at (now listing))) ≡ true ⌝ }
+    requires { ⌜ to + (ensembleBytes + serviceBytes * countSaid (drop at (now listing))) ≤ length (now chunk) ⌝ }
+    ensures { λ r. ⌜ r ≡ countSaid (drop at (now (listing .entry))) ⌝ }
+    ensures { λ _. ⌜ now (chunk .exit) ≡ sets (now (chunk .entry)) to (ensemblePut (drop at (now (listing .entry)))) ⌝ }
+{
+    let flags = listing[at + 3];
+    let channel = listing[at + 4];
+    let services = listing[at + 5];
+    chunk[to] = listing[at + 2];
+    chunk[to + 1] = 224;
+    chunk[to + 2] = flags * 32 + channel;
+    chunk[to + 3] = services;
+    let count = services as usize;
+    put_services(listing, at + EN_RECORD, count, chunk, to + ENSEMBLE);
+    count
+}
+
+// Puts count ensembles with their services.
+fn put_ensembles(listing: &[u8], from: usize, count: usize, chunk: &mut [u8], start: usize)
+    requires { ⌜ ensemblesFit count (drop from (now listing)) ≡ true ⌝ }
+    requires { ⌜ start + length (ensemblesPut count (drop from (now listing))) ≤ length (now chunk) ⌝ }
+    ensures { λ _. ⌜ now (chunk .exit) ≡ sets (now (chunk .entry)) start (ensemblesPut count (drop from (now (listing .entry)))) ⌝ }
+{
+    let mut at = from;
+    let mut to = start;
+    let mut left = count;
+    while 0 < left {
+        let services = put_ensemble(listing, at, chunk, to);
+        at = at + EN_RECORD + SV_RECORD * services;
+        to = to + (ENSEMBLE + SERVICE * services);
+        left -= 1;
+    }
+}
+
+// Puts the chunk of a well formed listing at the start.
+fn put_chunk(listing: &[u8], kind: Kind, chunk: &mut [u8])
+    requires { ⌜ listingFits (now listing) ≡ true ⌝ }
+    requires { ⌜ length (chunkPut kind (now listing)) ≤ length (now chunk) ⌝ }
+    ensures { λ _. ⌜ now (chunk .exit) ≡ sets (now (chunk .entry)) 0 (chunkPut kind (now (listing .entry))) ⌝ }
+{
+    let count = listing[4];
+    chunk[0] = 0;
+    chunk[1] = 2 + meaning::current_of(kind);
+    chunk[2] = listing[2];
+    chunk[3] = listing[3];
+    chunk[4] = count;
+    put_ensembles(listing, TS_RECORD, count as usize, chunk, HEADER);
+}
+
+// ---- the segments
+
+// Puts one segment at a place of the output.
+fn put_segment(kind: Kind, last: u8, chunk: &[u8], number: u8, out: &mut [u8], at: usize)
+    requires { ⌜ (last < mostSegments) × (number ≤ last) ⌝ }
+    requires { ⌜ (payloadBytes * number + payloadBytes ≤ length (now chunk)) × (at + segmentBytes ≤ length (now out)) ⌝ }
+    ensures { λ _. ⌜ now (out .exit) ≡ sets (now (out .entry)) at (segmentPut kind last (now (chunk .entry)) number) ⌝ }
+{
+    out[at] = 48 + meaning::current_of(kind) * 2;
+    out[at + 1] = number * 16 + last;
+    segments::copy_payload(chunk, PAYLOAD * number as usize, out, at + HEAD);
+}
+
+// Puts the segments with the numbers 0 to last, in order.
+fn put_segments(kind: Kind, last: u8, chunk: &[u8], out: &mut [u8])
+    requires { ⌜ last < mostSegments ⌝ }
+    requires { ⌜ (payloadBytes * (last + 1) ≤ length (now chunk)) × (segmentBytes * (last + 1) ≤ length (now out)) ⌝ }
+    ensures { λ _. ⌜ now (out .exit) ≡ sets (now (out .entry)) 0 (segmentsPut kind last (now (chunk .entry)) 0 (last + 1)) ⌝ }
+{
+    let mut number = 0u8;
+    let mut at = 0;
+    while number <= last {
+        put_segment(kind, last, chunk, number, out, at);
+        at += SEGMENT;
+        number += 1;
+    }
+}
+
+// Writes the segments of a listing's list, for the kind, at the start of the lent output; a refusal writes nothing.
+pub fn write(listing: &[u8], kind: Kind, out: &mut [u8]) -> Written
+    ensures { λ r. ⌜ WriteSays (now (listing .entry)) kind (now (out .entry)) r (now (out .exit)) ⌝ }
+{
+    if out.len() < OUTPUT {
+        return Written::Refused(Refusal::ShortBuffer);
+    }
+    let bad = !listing_fits(listing);
+    let length = chunk_length(listing);
+    let many = LONGEST_CHUNK < length;
+    if bad {
+        return Written::Refused(Refusal::BadListing);
+    }
+    if many {
+        return Written::Refused(Refusal::TooMany);
+    }
+    let count = (length + (PAYLOAD - 1)) / PAYLOAD;
+    let mut chunk = [STUFFING; LONGEST_CHUNK];
+    put_chunk(listing, kind, &mut chunk);
+    put_segments(kind, (count - 1) as u8, &chunk, out);
+    Written::Segments(count)
+}
