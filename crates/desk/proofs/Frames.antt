@@ -1,6 +1,6 @@
 -- What is shown after a new gathering, a new frame and a segment. Assumes nothing.
 use mathlib.Core.Path.{_≡_, refl, sym, ap, _∙_, subst}
-use mathlib.Core.Bool.{Bool, true, false, cond, not, _&&_, _||_, true≢false}
+use mathlib.Core.Bool.{Bool, true, false, cond, not, _&&_, _||_, true≢false, Bool·not-not}
 use mathlib.Core.List.{List, []}
 use Prim.Native.Nat.{ℕ, _≤_}
 use native.Mathlib.Omega.{arith}
@@ -16,8 +16,9 @@ use Rattle.slots.specs.declared.Answer.the-variants.{Listed}
 use Rattle.segments.specs.Segment.{segmentKind}
 use Rattle.desk.specs.declared.Marks.{Marks}
 use Rattle.desk.specs.declared.Desk.{Desk}
-use Rattle.desk.specs.Desks.{emptied, fresh, wellFormed, lengthFor, otherKind, newGathering, newFrame, lentFor, tooShort, After, lengthAfter, segmentAfter, shownLength, shown}
-use Rattle.desk.proofs.Keeps.{length-small, gathering-good, gathering-bad, gathering-fits, frame-good, frame-bad, frame-fits, Ready, Part, Says, both-long, lengthFor-small, lent-room, takes-ready, segment-cases}
+use Rattle.desk.specs.Desks.{emptied, fresh, wellFormed, lengthFor, otherKind, newGathering, newFrame, lentFor, tooShort, After, lengthAfter, takenBy, segmentAfter, shownLength, shown}
+use Rattle.desk.proofs.Roles.{lent-room, takes, Ready, long-ready, segment-cases}
+use Rattle.desk.proofs.Keeps.{length-small, lengthFor-small, gathering-good, gathering-bad, gathering-fits, frame-good, frame-bad, frame-fits, Says, taken-says, taken-ready}
 
 -- ---- how much is shown: nothing, or the listing's length where the desk is well formed and both buffers are long enough
 
@@ -26,11 +27,7 @@ module _ (k : Kind) (d : Desk) (first second : List ℕ) where
   unfolding shownLength
   length-cases P none ready =
       either (wellFormed d)
-      (λ w.
-      either (tooShort first || tooShort second) (λ s. simp (w, s) none)
-      (λ s.
-      let l = both-long first second s in
-      simp (w, s) (ready (record { formed = w; left = l .0; right = l .1 }))))
+      (λ w. either (tooShort first || tooShort second) (λ s. simp (w, s) none) (λ s. simp (w, s) (ready (long-ready d first second w s))))
       (λ w. simp w none)
 
   pub shown-small : shownLength k d first second ≤ longestListing
@@ -39,17 +36,15 @@ module _ (k : Kind) (d : Desk) (first second : List ℕ) where
   pub shown-fits : shownLength k d first second ≤ length (lentFor k (d .marks .swapped) first second)
   shown-fits =
       length-cases (λ n. n ≤ length (lentFor k (d .marks .swapped) first second)) (omega arith)
-      (λ y. omega (arith, lengthFor-small k d (y .formed), lent-room k (d .marks .swapped) first second (y .left) (y .right)))
+      (λ y. omega (arith, lengthFor-small k d (y .formed), lent-room y k (d .marks .swapped)))
 
   pub length-shown : length (shown k d first second) ≡ shownLength k d first second
   unfolding shown
   length-shown = length-take-le (shownLength k d first second) (lentFor k (d .marks .swapped) first second) shown-fits
 
-  shown-ready : {t : Bool} → Ready d first second → d .marks .swapped ≡ t → shown k d first second ≡ take (lengthFor k (d .marks)) (lentFor k t first second)
+  shown-ready : {t : Bool} {n : ℕ} → Ready d first second → d .marks .swapped ≡ t → lengthFor k (d .marks) ≡ n → shown k d first second ≡ take n (lentFor k t first second)
   unfolding shown shownLength
-  shown-ready y e =
-      simp (y .formed, le-ltb _ _ (y .left), le-ltb _ _ (y .right))
-      (ap (λ (t : Bool). take (lengthFor k (d .marks)) (lentFor k t first second)) e)
+  shown-ready y e l = simp (y .formed, le-ltb _ _ (y .left), le-ltb _ _ (y .right)) (λ i. take (l i) (lentFor k (e i) first second))
 
   shown-none : (wellFormed d ≡ true → lengthFor k (d .marks) ≡ 0) → shown k d first second ≡ []
   unfolding shown
@@ -82,12 +77,8 @@ pub gathering-shows : (k : Kind) (d : Desk) (first second : List ℕ) → shown 
 gathering-shows k d first second =
     shown-alike k k (newGathering d) d first second (gathering-fits d) (λ w. rw (gathering-good d w) (emptied-length k (d .marks), refl)) (gathering-bad d)
 
-lent-frame : {A : Type 0} (t : Bool) (x y : A) → lentFor This (not t) x y ≡ lentFor Next t x y
-lent-frame true x y = refl
-lent-frame false x y = refl
-
 pub frame-place : {A : Type 0} (d : Desk) → wellFormed d ≡ true → (x y : A) → lentFor This (newFrame d .marks .swapped) x y ≡ lentFor Next (d .marks .swapped) x y
-frame-place d w x y = rw (frame-good d w) (lent-frame (d .marks .swapped) x y)
+frame-place d w x y = rw (frame-good d w) (ap (λ (t : Bool). cond t x y) (Bool·not-not (d .marks .swapped)))
 
 module _ (d : Desk) (first second : List ℕ) where
   pub frame-shows : shown This (newFrame d) first second ≡ shown Next d first second
@@ -108,11 +99,12 @@ module _ (d : Desk) (xs first second : List ℕ) where
   pub other-shown : let r = segmentAfter d xs first second in let j = otherKind (segmentKind xs) in shown j (r .desk) (r .first) (r .second) ≡ shown j d first second
   other-shown =
       let j : Kind = otherKind (segmentKind xs) in
-      segment-cases d xs first second (λ r. shown j (r .desk) (r .first) (r .second) ≡ shown j d first second) (λ f b. refl)
-      (λ y r h.
-      shown-ready j (r .desk) (r .first) (r .second) (takes-ready h y) (h .swapped)
-      ∙ ap (λ (p : Part). take (p .size) (p .side .buffer)) (h .other)
-      ∙ sym (shown-ready j d first second y refl))
+      let c = takes (segmentKind xs) d xs first second .other in
+      segment-cases d xs first second (λ r. shown j (r .desk) (r .first) (r .second) ≡ shown j d first second) (λ f e. refl)
+      (λ y fine.
+      shown-ready j _ _ _ (taken-ready d xs first second y fine) (c .4) (c .2)
+      ∙ ap (take (lengthFor j (d .marks))) (c .3)
+      ∙ sym (shown-ready j d first second y refl refl))
 
   pub next-hidden : segmentKind xs ≡ Next → let r = segmentAfter d xs first second in shown This (r .desk) (r .first) (r .second) ≡ shown This d first second
   next-hidden e =
@@ -124,19 +116,20 @@ module _ (d : Desk) (xs first second : List ℕ) where
   listed-shown k n =
       let t : Bool = d .marks .swapped in
       let own : Kind = segmentKind xs in
+      let r : After = takenBy own d xs first second in
+      let h = takes own d xs first second in
       segment-cases d xs first second
       (λ r. r .answer ≡ Listed k n → (k ≡ own) × (n ≤ length (lentFor k t (r .first) (r .second))) × (r .desk .marks .swapped ≡ t) × (n ≤ longestListing) × (shown k (r .desk) (r .first) (r .second) ≡ take n (lentFor k t (r .first) (r .second))))
-      (λ f b e. let z : _≡_ {A = ℕ} 0 1 = cc in absurd (omega arith))
-      (λ y r h e.
-      let s : Says own (Listed k n) = subst (Says own) e (h .says) in
-      let z = takes-ready h y in
+      (λ f e a. let z : _≡_ {A = ℕ} 0 1 = cc in absurd (omega arith))
+      (λ y fine a.
+      let s : Says own (Listed k n) = subst (Says own) a (taken-says d xs first second y fine) in
+      let z = taken-ready d xs first second y fine in
       let small = length-small n (s .1) in
-      let size : lengthFor own (r .desk .marks) ≡ n = h .size ∙ ap (λ (a : Answer). lengthAfter a (lengthFor own (d .marks))) e in
+      let size : lengthFor own (r .desk .marks) ≡ n = h .size ∙ ap (λ (b : Answer). lengthAfter b (lengthFor own (d .marks))) (sym (h .answer) ∙ a) in
       rw (s .0) (
         refl,
-        omega (arith, lent-room own t (r .first) (r .second) (z .left) (z .right)),
-        h .swapped,
+        omega (arith, lent-room z own t),
+        h .other .4,
         small,
-        shown-ready own (r .desk) (r .first) (r .second) z (h .swapped)
-            ∙ ap (λ (m : ℕ). take m (lentFor own t (r .first) (r .second))) size,
+        shown-ready own (r .desk) (r .first) (r .second) z (h .other .4) size,
       ))

@@ -1,35 +1,30 @@
 -- A well formed desk stays well formed, whatever call is made; and what a segment's call leaves. Assumes nothing.
-use mathlib.Core.Path.{_≡_, refl, sym, ap, _∙_, subst}
-use mathlib.Core.Bool.{Bool, true, false, cond, not, _&&_, _||_, and-eq-true-iff, or-true, false≢true}
+use mathlib.Core.Path.{_≡_, refl, ap, _∙_}
+use mathlib.Core.Bool.{Bool, true, false, not, _&&_, and-eq-true-iff, or-true}
 use mathlib.Core.List.{List}
-use Prim.Native.Nat.{ℕ, _%_, _≤_}
+use Prim.Native.Nat.{ℕ, _≤_}
 use native.Mathlib.Omega.{arith}
-use borrow.Author.Tests.{ltb-false, leb-true, le-leb, eqb-true, not-false}
-use lib.Dec.{eqb, leb, ltb}
-use lib.ListN.{length, getD, length-append, length-drop}
+use borrow.Author.Tests.{leb-true, le-leb, eqb-true}
+use lib.Dec.{eqb, leb}
+use lib.ListN.{length, length-append, length-drop}
 use Rattle.octets.proofs.Laws.{either}
 use Rattle.meaning.specs.declared.Kind.{Kind}
 use Rattle.meaning.specs.declared.Kind.the-variants.{This, Next}
-use Rattle.meaning.specs.declared.Refusal.{Refusal}
-use Rattle.meaning.specs.declared.Refusal.the-variants.{ShortBuffer, SegmentLength, SegmentType, ErrorBit, OtherMajor, NumberAboveLast, KindDiffers, BadDesk}
 use Rattle.meaning.specs.declared.Checked.{Checked}
 use Rattle.meaning.specs.declared.Checked.the-variants.{Fine, Fault}
 use Rattle.meaning.specs.Sizes.{tsBytes, longestListing}
-use Rattle.meaning.specs.Numbers.{numberOf}
-use Rattle.meaning.specs.Lists.{currentOf}
 use Rattle.meaning.specs.Listing.{listing}
-use Rattle.meaning.specs.Reading.{check, checks, listIn}
-use Rattle.meaning.proofs.Checks.{check-passed}
+use Rattle.meaning.specs.Reading.{checks, listIn}
 use Rattle.meaning.proofs.Lengths.{length-listing, listing-fits}
-use Rattle.meaning.proofs.Answers.{checks-among}
 use Rattle.slots.specs.declared.Answer.{Answer}
 use Rattle.slots.specs.declared.Answer.the-variants.{Missing, Listed, Refused}
-use Rattle.segments.specs.Segment.{segmentBytes, segmentKind, segmentChecks, sortIn, errorIn, segmentMajor, numberIn, lastIn}
+use Rattle.segments.specs.Segment.{segmentKind, segmentChecks, numberIn}
 use Rattle.slots.specs.Slots.{slotFits, holds, missingIn, clashing}
 use Rattle.slots.specs.Gathering.{Side, side, Outcome, hold, chunkIn, kindChecks, judged, completed, gathered}
 use Rattle.slots.proofs.Keeps.{empty-fits, gathered-fits}
 use Rattle.desk.specs.declared.Desk.{Desk}
-use Rattle.desk.specs.Desks.{emptied, fresh, lengthFits, wellFormed, slotFor, bytesFor, lengthFor, otherKind, newGathering, newFrame, lentFor, tooShort, After, after, lengthAfter, byRole, exchanged, takenBy, callChecks, answeredBy, segmentAfter}
+use Rattle.desk.specs.Desks.{emptied, fresh, lengthFits, wellFormed, slotFor, bytesFor, lengthFor, otherKind, newGathering, newFrame, After, lengthAfter, takenBy, segmentAfter}
+use Rattle.desk.proofs.Roles.{lent-room, both-roles, own, Takes, takes, Ready, segment-cases}
 
 -- ---- the lengths of listings
 
@@ -54,6 +49,21 @@ desk-parts d e =
 pub parts-desk : (d : Desk) → lengthFits (d .marks .shown) ≡ true → lengthFits (d .marks .coming) ≡ true → slotFits (d .marks .this) (d .this) ≡ true → slotFits (d .marks .next) (d .next) ≡ true → wellFormed d ≡ true
 unfolding wellFormed
 parts-desk d l m s t = simp (l, m, s, t)
+
+-- by kind: the length of its listing and its slot fit
+abbrev Fits : Kind → Desk → Type 0
+Fits k d = (lengthFits (lengthFor k (d .marks)) ≡ true) × (slotFits (slotFor k (d .marks)) (bytesFor k d) ≡ true)
+
+pub kind-fits : (k : Kind) (d : Desk) → wellFormed d ≡ true → Fits k d
+kind-fits This d w = let p = desk-parts d w in (p .0, p .2)
+kind-fits Next d w = let p = desk-parts d w in (p .1, p .3)
+
+kinds-fit : (k : Kind) (d : Desk) → Fits k d → Fits (otherKind k) d → wellFormed d ≡ true
+kinds-fit This d p q = parts-desk d (p .0) (q .0) (p .1) (q .1)
+kinds-fit Next d p q = parts-desk d (q .0) (p .0) (q .1) (p .1)
+
+pub lengthFor-small : (k : Kind) (d : Desk) → wellFormed d ≡ true → lengthFor k (d .marks) ≤ longestListing
+lengthFor-small k d w = length-small (lengthFor k (d .marks)) (kind-fits k d w .0)
 
 -- ---- desks with empty slots
 
@@ -90,44 +100,17 @@ module _ (d : Desk) where
       either (wellFormed d) (λ w. rw (frame-good w) (emptied-fits _ 0 (not (d .marks .swapped)) (desk-parts d w .1) refl))
       (λ w. rw (frame-bad w) fresh-fits)
 
--- ---- checks that never say that the desk is bad
-
-Good : Checked → Type 0
-Good v = v ≡ Fault BadDesk → ⊥
-
-good-fine : Good Fine
-unfolding Good
-good-fine e = let z : _≡_ {A = ℕ} 0 1 = cc in omega arith
-
-good-check : (broken : Bool) (f : Refusal) (rest : Checked) → eqb (numberOf f) (numberOf BadDesk) ≡ false → Good rest → Good (check broken f rest)
-unfolding Good
-good-check true f rest n h e = let same : f ≡ BadDesk = cc in false≢true (sym n ∙ ap (λ (g : Refusal). eqb (numberOf g) (numberOf BadDesk)) same)
-good-check false f rest n h e = h e
-
-segment-good : (xs : List ℕ) → Good (segmentChecks xs)
-unfolding segmentChecks
-segment-good xs =
-    good-check (not (eqb (length xs) segmentBytes)) SegmentLength _ refl
-    (good-check (not (eqb (sortIn xs) 0)) SegmentType _ refl
-    (good-check (not (eqb (errorIn xs) 0)) ErrorBit _ refl
-    (good-check (not (eqb (segmentMajor xs) 0)) OtherMajor _ refl
-    (good-check (ltb (lastIn xs) (numberIn xs)) NumberAboveLast Fine refl good-fine))))
-
-kind-good : (v : Checked) (k : Kind) (xs : List ℕ) → Good v → Good (kindChecks v k xs)
-kind-good (Fault f) k xs h = h
-kind-good Fine k xs h = good-check (not (eqb (getD xs 1 0 % 2) (currentOf k))) KindDiffers Fine refl good-fine
+-- ---- what the slot of a kind answers, and that the buffer keeps its length
 
 kind-fine : (v : Checked) (k : Kind) (xs : List ℕ) → kindChecks v k xs ≡ Fine → v ≡ Fine
 kind-fine (Fault f) k xs e = e
 kind-fine Fine k xs e = refl
 
--- ---- what the slot of a kind answers, and that the buffer keeps its length
-
--- no bad desk; and what is listed is of this kind, of a length that fits
+-- what is listed is of this kind, and of a length that fits
 abbrev pub Says : Kind → Answer → Type 0
 Says k (Missing n) = Unit {0}
 Says k (Listed j n) = (j ≡ k) × (lengthFits n ≡ true)
-Says k (Refused f) = f ≡ BadDesk → ⊥
+Says k (Refused f) = Unit {0}
 
 abbrev Answers : Kind → Side → Outcome → Type 0
 Answers k s o = Says k (o .answer) × (length (o .side .buffer) ≡ length (s .buffer))
@@ -138,10 +121,9 @@ module _ (k : Kind) where
   says-length (Listed j m) n s h = s .1
   says-length (Refused f) n s h = h
 
-  judged-answers : (v : Checked) (s : Side) → longestListing ≤ length (s .buffer) → Good v → (v ≡ Fine → checks (chunkIn s) ≡ Fine) → Answers k s (judged v k s)
-  unfolding Good
-  judged-answers (Fault f) s room h p = (λ e. h (ap Fault e), refl)
-  judged-answers Fine s room h p =
+  judged-answers : (v : Checked) (s : Side) → longestListing ≤ length (s .buffer) → (v ≡ Fine → checks (chunkIn s) ≡ Fine) → Answers k s (judged v k s)
+  judged-answers (Fault f) s room p = (tt, refl)
+  judged-answers Fine s room p =
       let l : List ℕ = listing (listIn (chunkIn s)) in
       let most = listing-fits (chunkIn s) (p refl) in
       let least : tsBytes ≤ length l = omega (arith, length-listing (listIn (chunkIn s))) in (
@@ -150,9 +132,9 @@ module _ (k : Kind) where
       )
 
   gathered-answers : (xs : List ℕ) (s : Side) → longestListing ≤ length (s .buffer) → Answers k s (gathered k xs s)
-  unfolding gathered completed Good
+  unfolding gathered completed
   gathered-answers xs s room =
-      either (clashing (s .slot) (s .bytes) xs) (λ c. simp c (λ e. let z : _≡_ {A = ℕ} 0 1 = cc in omega arith, refl))
+      either (clashing (s .slot) (s .bytes) xs) (λ c. simp c (tt, refl))
       (λ c.
       either (holds (s .slot .held) (numberIn xs)) (λ h. simp (c, h) (tt, refl))
       (λ h.
@@ -161,138 +143,51 @@ module _ (k : Kind) where
       either (eqb (missingIn (more .slot)) 0)
       (λ m.
       simp (c, h, m)
-      (judged-answers (kindChecks (checks chunk) k chunk) more room (kind-good (checks chunk) k chunk (checks-among chunk BadDesk)) (kind-fine (checks chunk) k chunk)))
+      (judged-answers (kindChecks (checks chunk) k chunk) more room (kind-fine (checks chunk) k chunk)))
       (λ m. simp (c, h, m) (tt, refl))))
 
--- ---- a kind's part of a desk and of the buffers
+-- ---- a segment that comes to its slot
 
--- the desk is well formed and both buffers are long enough
-pub record Ready (d : Desk) (first second : List ℕ) : Type 0 where
-  pub formed : wellFormed d ≡ true
-  pub left : longestListing ≤ length first
-  pub right : longestListing ≤ length second
+module _ (d : Desk) (xs first second : List ℕ) (y : Ready d first second) (fine : segmentChecks xs ≡ Fine) where
+  abbrev k : Kind
+  k = segmentKind xs
 
-pub both-long : (first second : List ℕ) → tooShort first || tooShort second ≡ false → (longestListing ≤ length first) × (longestListing ≤ length second)
-both-long first second e =
-    either (tooShort first) (λ s. absurd (false≢true (sym e ∙ simp s)))
-    (λ s. (ltb-false _ _ s, ltb-false (length second) longestListing (simp s at e)))
+  abbrev o : Outcome
+  o = gathered k xs (own k d first second)
 
--- a kind's slot, its bytes and its buffer, and its listing's length
-pub record Part : Type 0 where
-  pub side : Side
-  pub size : ℕ
+  abbrev r : After
+  r = takenBy k d xs first second
 
-abbrev pub partFor : Kind → Bool → Desk → List ℕ → List ℕ → Part
-partFor k swapped d first second =
-    record { side = side (slotFor k (d .marks)) (bytesFor k d) (lentFor k swapped first second); size = lengthFor k (d .marks) }
+  has : Takes k d first second o r
+  has = takes k d xs first second
 
-abbrev Fits : Part → Type 0
-Fits p = (lengthFits (p .size) ≡ true) × (slotFits (p .side .slot) (p .side .bytes) ≡ true)
+  answers : Answers k (own k d first second) o
+  answers = gathered-answers k xs _ (lent-room y k (d .marks .swapped))
 
-module _ (t : Bool) (d : Desk) (first second : List ℕ) where
-  part-fits : (k : Kind) → wellFormed d ≡ true → Fits (partFor k t d first second)
-  part-fits This w = let p = desk-parts d w in (p .0, p .2)
-  part-fits Next w = let p = desk-parts d w in (p .1, p .3)
+  pub taken-says : Says k (r .answer)
+  taken-says = rw (has .answer) (answers .0)
 
-  fits-part : (k : Kind) → Fits (partFor k t d first second) → Fits (partFor (otherKind k) t d first second) → wellFormed d ≡ true
-  fits-part This p q = parts-desk d (p .0) (q .0) (p .1) (q .1)
-  fits-part Next p q = parts-desk d (q .0) (p .0) (q .1) (p .1)
+  taken-formed : wellFormed (r .desk) ≡ true
+  taken-formed =
+      let p = kind-fits k d (y .formed) in
+      kinds-fit k (r .desk)
+      (rw (has .size, has .slot, has .bytes) (says-length k (o .answer) (lengthFor k (d .marks)) (answers .0) (p .0), gathered-fits k xs (own k d first second) (p .1) fine))
+      (rw (has .other .0, has .other .1, has .other .2) (kind-fits (otherKind k) d (y .formed)))
 
-pub lengthFor-small : (k : Kind) (d : Desk) → wellFormed d ≡ true → lengthFor k (d .marks) ≤ longestListing
-lengthFor-small This d w = length-small (d .marks .shown) (desk-parts d w .0)
-lengthFor-small Next d w = length-small (d .marks .coming) (desk-parts d w .1)
+  taken-lengths : (length (r .first) ≡ length first) × (length (r .second) ≡ length second)
+  taken-lengths =
+      both-roles length k (d .marks .swapped) (r .first) (r .second) first second (ap length (has .buffer) ∙ answers .1) (ap length (has .other .3))
 
-pub lent-room : (k : Kind) (t : Bool) (first second : List ℕ) → longestListing ≤ length first → longestListing ≤ length second → longestListing ≤ length (lentFor k t first second)
-lent-room This true first second l r = r
-lent-room This false first second l r = l
-lent-room Next true first second l r = l
-lent-room Next false first second l r = r
+  pub taken-ready : Ready (r .desk) (r .first) (r .second)
+  taken-ready = record { formed = taken-formed; left = rw (taken-lengths .0) (y .left); right = rw (taken-lengths .1) (y .right) }
 
-lent-lengths : (k : Kind) (t : Bool) (a b first second : List ℕ) → length (lentFor k t a b) ≡ length (lentFor k t first second) → length (lentFor (otherKind k) t a b) ≡ length (lentFor (otherKind k) t first second) → (length a ≡ length first) × (length b ≡ length second)
-lent-lengths This true a b first second p q = (q, p)
-lent-lengths This false a b first second p q = (p, q)
-lent-lengths Next true a b first second p q = (p, q)
-lent-lengths Next false a b first second p q = (q, p)
-
--- ---- a segment of the kind k that passed all checks before the slot's, on a desk with the buffers swapped or not
-
--- what its result r has: the slot's answer, a well formed slot and the length that the answer says; the other kind's part is as it was
-pub record Takes (k : Kind) (t : Bool) (d : Desk) (first second : List ℕ) (r : After) : Type 0 where
-  pub says : Says k (r .answer)
-  pub fits : slotFits (slotFor k (r .desk .marks)) (bytesFor k (r .desk)) ≡ true
-  pub size : lengthFor k (r .desk .marks) ≡ lengthAfter (r .answer) (lengthFor k (d .marks))
-  pub room : length (lentFor k t (r .first) (r .second)) ≡ length (lentFor k t first second)
-  pub other : partFor (otherKind k) t (r .desk) (r .first) (r .second) ≡ partFor (otherKind k) t d first second
-  pub swapped : r .desk .marks .swapped ≡ d .marks .swapped
-
-takes : (k : Kind) (t : Bool) (d : Desk) (xs first second : List ℕ) → (let s = partFor k t d first second .side in let o = gathered k xs s in Answers k s o × (slotFits (o .side .slot) (o .side .bytes) ≡ true)) → Takes k t d first second (cond t (exchanged (byRole k d xs second first)) (byRole k d xs first second))
-unfolding byRole
-takes This true d xs first second (a, f) = record { says = a .0; fits = f; size = refl; room = a .1; other = refl; swapped = refl }
-takes This false d xs first second (a, f) = record { says = a .0; fits = f; size = refl; room = a .1; other = refl; swapped = refl }
-takes Next true d xs first second (a, f) = record { says = a .0; fits = f; size = refl; room = a .1; other = refl; swapped = refl }
-takes Next false d xs first second (a, f) = record { says = a .0; fits = f; size = refl; room = a .1; other = refl; swapped = refl }
-
-module _ {k : Kind} {t : Bool} {d : Desk} {first second : List ℕ} {r : After} (h : Takes k t d first second r) where
-  takes-formed : wellFormed d ≡ true → wellFormed (r .desk) ≡ true
-  takes-formed w =
-      fits-part t (r .desk) (r .first) (r .second) k
-      (rw (h .size) (says-length k (r .answer) _ (h .says) (part-fits t d first second k w .0)), h .fits)
-      (subst Fits (sym (h .other)) (part-fits t d first second (otherKind k) w))
-
-  takes-lengths : (length (r .first) ≡ length first) × (length (r .second) ≡ length second)
-  takes-lengths =
-      lent-lengths k t (r .first) (r .second) first second (h .room) (ap (λ (p : Part). length (p .side .buffer)) (h .other))
-
-  pub takes-ready : Ready d first second → Ready (r .desk) (r .first) (r .second)
-  takes-ready y =
-      let e = takes-lengths in record { formed = takes-formed (y .formed); left = rw (e .0) (y .left); right = rw (e .1) (y .right) }
-
--- ---- a segment, by its two cases: refused before the slot, or taken by the slot of its kind
+-- ---- a segment
 
 module _ (d : Desk) (xs first second : List ℕ) where
-  call-bad : callChecks d xs first second ≡ Fault BadDesk → wellFormed d ≡ false
-  unfolding Good
-  call-bad e =
-      either (wellFormed d) (λ w. absurd (good-check (tooShort first || tooShort second) ShortBuffer (segmentChecks xs) refl (segment-good xs) (simp w at e)))
-      (λ w. w)
-
-  call-fine : callChecks d xs first second ≡ Fine → Ready d first second × (segmentChecks xs ≡ Fine)
-  call-fine e =
-      let a = check-passed (not (wellFormed d)) BadDesk _ e in
-      let b = check-passed (tooShort first || tooShort second) ShortBuffer _ (a .1) in
-      let l = both-long first second (b .0) in
-      (record { formed = not-false _ (a .0); left = l .0; right = l .1 }, b .1)
-
-  pub segment-cases : (P : After → Type 0) → ((f : Refusal) → (f ≡ BadDesk → wellFormed d ≡ false) → P (after (Refused f) d first second)) → (Ready d first second → (r : After) → Takes (segmentKind xs) (d .marks .swapped) d first second r → P r) → P (segmentAfter d xs first second)
-  unfolding segmentAfter
-  segment-cases P refused taken = go (callChecks d xs first second) refl
-    where
-      go : (v : Checked) → callChecks d xs first second ≡ v → P (answeredBy v d xs first second)
-      go (Fault f) e = refused f (λ b. call-bad (e ∙ ap Fault b))
-      go Fine e =
-          let c = call-fine e in
-          let k : Kind = segmentKind xs in
-          let t : Bool = d .marks .swapped in
-          let p : Part = partFor k t d first second in
-          taken (c .0) (takenBy k d xs first second)
-          (takes k t d xs first second (
-            gathered-answers k xs (p .side) (lent-room k t first second (c .0 .left) (c .0 .right)),
-            gathered-fits k xs (p .side) (part-fits t d first second k (c .0 .formed) .1) (c .1),
-          ))
-
   pub segment-fits : wellFormed d ≡ true → wellFormed (segmentAfter d xs first second .desk) ≡ true
-  segment-fits w = segment-cases (λ r. wellFormed (r .desk) ≡ true) (λ f b. w) (λ y r h. takes-formed h w)
-
-  pub bad-desk : wellFormed d ≡ false → segmentAfter d xs first second ≡ after (Refused BadDesk) d first second
-  unfolding segmentAfter
-  bad-desk w = simp w
-
-  pub only-bad-desk : segmentAfter d xs first second .answer ≡ Refused BadDesk → wellFormed d ≡ false
-  only-bad-desk =
-      segment-cases (λ r. r .answer ≡ Refused BadDesk → wellFormed d ≡ false) (λ f b e. b cc)
-      (λ y r h e. absurd (subst (Says (segmentKind xs)) e (h .says) refl))
+  segment-fits w = segment-cases d xs first second (λ r. wellFormed (r .desk) ≡ true) (λ f e. w) (taken-formed d xs first second)
 
   pub same-lengths : (length (segmentAfter d xs first second .first) ≡ length first) × (length (segmentAfter d xs first second .second) ≡ length second)
   same-lengths =
-      segment-cases (λ r. (length (r .first) ≡ length first) × (length (r .second) ≡ length second)) (λ f b. (refl, refl))
-      (λ y r h. takes-lengths h)
+      segment-cases d xs first second (λ r. (length (r .first) ≡ length first) × (length (r .second) ≡ length second)) (λ f e. (refl, refl))
+      (taken-lengths d xs first second)

@@ -1,5 +1,5 @@
 -- Laws of the desk's definitions in the code's own terms. Assumes nothing.
-use mathlib.Core.Path.{_≡_, sym, ap, _∙_}
+use mathlib.Core.Path.{_≡_, refl, sym, ap, _∙_}
 use mathlib.Core.Bool.{Bool, true, false, cond, not}
 use mathlib.Core.List.{List}
 use Prim.Native.Nat.{ℕ, _≤_, _<_}
@@ -10,7 +10,6 @@ use Rattle.meaning.specs.declared.Kind.{Kind}
 use Rattle.meaning.specs.declared.Kind.the-variants.{This, Next}
 use Rattle.meaning.specs.declared.Refusal.{Refusal}
 use Rattle.meaning.specs.declared.Refusal.the-variants.{ShortBuffer, BadDesk}
-use Rattle.meaning.specs.declared.Checked.{Checked}
 use Rattle.meaning.specs.declared.Checked.the-variants.{Fine, Fault}
 use Rattle.meaning.specs.Sizes.{tsBytes, longestListing}
 use Rattle.slots.specs.declared.Slot.{Slot}
@@ -18,10 +17,11 @@ use Rattle.slots.specs.declared.Answer.{Answer}
 use Rattle.slots.specs.declared.Answer.the-variants.{Refused}
 use Rattle.segments.specs.Segment.{segmentKind, segmentChecks}
 use Rattle.slots.specs.Slots.{noBytes, slotFits}
-use Rattle.slots.specs.Gathering.{side, outcome, gathered}
+use Rattle.slots.specs.Gathering.{side, Outcome, outcome, gathered}
 use Rattle.desk.specs.declared.Marks.{Marks}
 use Rattle.desk.specs.declared.Desk.{Desk}
-use Rattle.desk.specs.Desks.{desk, emptied, fresh, lengthFits, wellFormed, newGathering, newFrame, lentFor, lengthFor, After, after, lengthAfter, altered, byRole, exchanged, answeredBy, segmentAfter, shownLength, shown}
+use Rattle.desk.specs.Desks.{desk, emptied, fresh, lengthFits, wellFormed, newGathering, newFrame, firstServes, lentFor, lengthFor, after, lengthAfter, sideOf, altered, takenBy, segmentAfter, shownLength, shown}
+use Rattle.desk.proofs.Roles.{Ready, ready-answered}
 
 -- ---- a listing's length
 
@@ -74,22 +74,24 @@ module _ (d : Desk) where
   unfolding newFrame
   frame-fit m e is = ap (λ (n : Marks). desk n noBytes noBytes) is ∙ simp e
 
--- ---- a segment, with the buffers by their roles
+-- ---- a segment of the kind k that passed the checks on itself, with the buffer of that kind
 
-module _ (d : Desk) (xs shown coming : List ℕ) (a : Answer) (s : Slot) (bytes buffer : List ℕ) (n : ℕ) where
-  pub role-this : segmentKind xs ≡ This → outcome a (side s bytes buffer) ≡ gathered This xs (side (d .marks .this) (d .this) shown) → n ≡ lengthAfter a (d .marks .shown) → after a (desk (record { this = s; next = d .marks .next; shown = n; coming = d .marks .coming; swapped = d .marks .swapped }) bytes (d .next)) buffer coming ≡ byRole (segmentKind xs) d xs shown coming
-  unfolding byRole
-  role-this k e l =
-      (λ i. after a (desk (record { this = s; next = d .marks .next; shown = l i; coming = d .marks .coming; swapped = d .marks .swapped }) bytes (d .next)) buffer coming)
-      ∙ ap (altered This d shown coming) e
-      ∙ ap (λ (j : Kind). byRole j d xs shown coming) (sym k)
+-- what it answers, the desk and the buffer that it leaves
+abbrev Steered : Kind → Desk → List ℕ → List ℕ → Answer → Desk → List ℕ → Type 0
+Steered k d xs buffer a e left = let o = gathered k xs (sideOf k d buffer) in (a ≡ o .answer) × (e ≡ altered k d o) × (left ≡ o .side .buffer)
 
-  pub role-next : segmentKind xs ≡ Next → outcome a (side s bytes buffer) ≡ gathered Next xs (side (d .marks .next) (d .next) coming) → n ≡ lengthAfter a (d .marks .coming) → after a (desk (record { this = d .marks .this; next = s; shown = d .marks .shown; coming = n; swapped = d .marks .swapped }) (d .this) bytes) shown buffer ≡ byRole (segmentKind xs) d xs shown coming
-  unfolding byRole
-  role-next k e l =
-      (λ i. after a (desk (record { this = d .marks .this; next = s; shown = d .marks .shown; coming = l i; swapped = d .marks .swapped }) (d .this) bytes) shown buffer)
-      ∙ ap (altered Next d shown coming) e
-      ∙ ap (λ (j : Kind). byRole j d xs shown coming) (sym k)
+-- the desk with this slot and this length for the kind k
+abbrev put : Kind → Desk → Slot → List ℕ → ℕ → Desk
+put This d s bytes n = let m = d .marks in desk (record { this = s; next = m .next; shown = n; coming = m .coming; swapped = m .swapped }) bytes (d .next)
+put Next d s bytes n = let m = d .marks in desk (record { this = m .this; next = s; shown = m .shown; coming = n; swapped = m .swapped }) (d .this) bytes
+
+altered-put : (k : Kind) (d : Desk) (o : Outcome) → put k d (o .side .slot) (o .side .bytes) (lengthAfter (o .answer) (lengthFor k (d .marks))) ≡ altered k d o
+altered-put This d o = refl
+altered-put Next d o = refl
+
+pub steered : (j : Kind) {k : Kind} (d : Desk) (xs buffer : List ℕ) (a : Answer) (s : Slot) (bytes left : List ℕ) (n : ℕ) → k ≡ j → outcome a (side s bytes left) ≡ gathered j xs (sideOf j d buffer) → n ≡ lengthAfter a (lengthFor j (d .marks)) → Steered k d xs buffer a (put j d s bytes n) left
+steered j d xs buffer a s bytes left n is e l =
+    rw is (ap (λ (o : Outcome). o .answer) e, ap (put j d s bytes) l ∙ altered-put j d _ ∙ ap (altered j d) e, ap (λ (o : Outcome). o .side .buffer) e)
 
 -- ---- a segment: 12, 1, its own checks, or taken
 
@@ -98,38 +100,29 @@ module _ (d : Desk) (xs first second : List ℕ) where
   unfolding segmentAfter
   taken-unfit e = simp e
 
-  module _ (fit : wellFormed d ≡ true) where
-    pub first-short : length first < longestListing → after (Refused ShortBuffer) d first second ≡ segmentAfter d xs first second
+  module _ (fit : wellFormed d ≡ true) {a : Answer} {m : Marks} where
+    short-with : (a ≡ Refused ShortBuffer) × (m ≡ d .marks) → after (Refused ShortBuffer) d first second ≡ segmentAfter d xs first second → after a (desk m (d .this) (d .next)) first second ≡ segmentAfter d xs first second
+    short-with s e = (λ i. after (s .0 i) (desk (s .1 i) (d .this) (d .next)) first second) ∙ e
+
+    pub first-short : length first < longestListing → (a ≡ Refused ShortBuffer) × (m ≡ d .marks) → after a (desk m (d .this) (d .next)) first second ≡ segmentAfter d xs first second
     unfolding segmentAfter
-    first-short h = simp (fit, lt-ltb _ _ h)
+    first-short h s = short-with s (simp (fit, lt-ltb _ _ h))
 
-    module _ (one : longestListing ≤ length first) where
-      pub second-short : length second < longestListing → after (Refused ShortBuffer) d first second ≡ segmentAfter d xs first second
-      unfolding segmentAfter
-      second-short h = simp (fit, le-ltb _ _ one, lt-ltb _ _ h)
+    pub second-short : longestListing ≤ length first → length second < longestListing → (a ≡ Refused ShortBuffer) × (m ≡ d .marks) → after a (desk m (d .this) (d .next)) first second ≡ segmentAfter d xs first second
+    unfolding segmentAfter
+    second-short one h s = short-with s (simp (fit, le-ltb _ _ one, lt-ltb _ _ h))
 
-      module _ (two : longestListing ≤ length second) where
-        by-checks : answeredBy (segmentChecks xs) d xs first second ≡ segmentAfter d xs first second
-        unfolding segmentAfter
-        by-checks = simp (fit, le-ltb _ _ one, le-ltb _ _ two)
+  module _ (y : Ready d first second) where
+    pub taken-refused : {f : Refusal} → segmentChecks xs ≡ Fault f → after (Refused f) d first second ≡ segmentAfter d xs first second
+    taken-refused e = rw (ready-answered d xs first second y, e)
 
-        pub taken-refused : {f : Refusal} → segmentChecks xs ≡ Fault f → after (Refused f) d first second ≡ segmentAfter d xs first second
-        taken-refused e = sym (ap (λ (v : Checked). answeredBy v d xs first second) e) ∙ by-checks
-
-        module _ (fine : segmentChecks xs ≡ Fine) (r : After) where
-          pub taken-swapped : d .marks .swapped ≡ true → r ≡ byRole (segmentKind xs) d xs second first → exchanged r ≡ segmentAfter d xs first second
-          taken-swapped w e =
-              ap exchanged e
-              ∙ sym (ap (λ (t : Bool). cond t (exchanged (byRole (segmentKind xs) d xs second first)) (byRole (segmentKind xs) d xs first second)) w)
-              ∙ sym (ap (λ (v : Checked). answeredBy v d xs first second) fine)
-              ∙ by-checks
-
-          pub taken-straight : d .marks .swapped ≡ false → r ≡ byRole (segmentKind xs) d xs first second → r ≡ segmentAfter d xs first second
-          taken-straight w e =
-              e
-              ∙ sym (ap (λ (t : Bool). cond t (exchanged (byRole (segmentKind xs) d xs second first)) (byRole (segmentKind xs) d xs first second)) w)
-              ∙ sym (ap (λ (v : Checked). answeredBy v d xs first second) fine)
-              ∙ by-checks
+    pub taken-steered : segmentChecks xs ≡ Fine → (mine : Bool) {k : Kind} {a : Answer} {e : Desk} {left : List ℕ} → k ≡ segmentKind xs → firstServes k (d .marks .swapped) ≡ mine → Steered k d xs (cond mine first second) a e left → after a e (cond mine left first) (cond mine second left) ≡ segmentAfter d xs first second
+    unfolding takenBy
+    taken-steered fine mine {k} is serves s =
+        let t = d .marks .swapped in
+        let z = rw (sym serves) at s in
+        rw (ready-answered d xs first second y, fine, sym is, sym serves)
+        (λ i. after (z .0 i) (z .1 i) (cond (firstServes k t) (z .2 i) first) (cond (firstServes k t) second (z .2 i)))
 
 -- ---- show
 
@@ -151,28 +144,6 @@ module _ (k : Kind) (d : Desk) (first second : List ℕ) where
       pub shown-both : longestListing ≤ length second → lengthFor k (d .marks) ≡ shownLength k d first second
       unfolding shownLength
       shown-both two = simp (fit, le-ltb _ _ one, le-ltb _ _ two)
-
-lent-chosen : {A : Type 0} (k : Kind) (swapped t : Bool) (x y : A) → t ≡ lentFor k swapped false true → lentFor k swapped x y ≡ cond t y x
-lent-chosen This true t x y e = sym (ap (λ (b : Bool). cond b y x) e)
-lent-chosen This false t x y e = sym (ap (λ (b : Bool). cond b y x) e)
-lent-chosen Next true t x y e = sym (ap (λ (b : Bool). cond b y x) e)
-lent-chosen Next false t x y e = sym (ap (λ (b : Bool). cond b y x) e)
-
-pub serves-this : (k : Kind) (swapped : Bool) → k ≡ This → swapped ≡ lentFor k swapped false true
-serves-this k true e = ap (λ (j : Kind). lentFor j true false true) (sym e)
-serves-this k false e = ap (λ (j : Kind). lentFor j false false true) (sym e)
-
-pub serves-next : (k : Kind) (swapped : Bool) → k ≡ Next → not swapped ≡ lentFor k swapped false true
-serves-next k true e = ap (λ (j : Kind). lentFor j true false true) (sym e)
-serves-next k false e = ap (λ (j : Kind). lentFor j false false true) (sym e)
-
--- the part that is lent is of the second buffer, or of the first
-module _ {A : Type 0} (k : Kind) (swapped t : Bool) (x y : A) (is : t ≡ lentFor k swapped false true) where
-  pub lent-second : t ≡ true → y ≡ lentFor k swapped x y
-  lent-second e = ap (λ (b : Bool). cond b y x) (sym e) ∙ sym (lent-chosen k swapped t x y is)
-
-  pub lent-first : t ≡ false → x ≡ lentFor k swapped x y
-  lent-first e = ap (λ (b : Bool). cond b y x) (sym e) ∙ sym (lent-chosen k swapped t x y is)
 
 pub shown-is : (k : Kind) (d : Desk) (first second : List ℕ) (n : ℕ) (r : List ℕ) → n ≡ shownLength k d first second → r ≡ take n (lentFor k (d .marks .swapped) first second) → r ≡ shown k d first second
 unfolding shown

@@ -1,3 +1,4 @@
+pub mod Roles
 pub mod Keeps
 pub mod Frames
 pub mod Apart

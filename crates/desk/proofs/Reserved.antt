@@ -11,7 +11,7 @@ use Rattle.segments.specs.Segment.{Head, headFields, segment, sortIn, segmentMa
 use Rattle.slots.specs.Slots.{clashing}
 use Rattle.slots.specs.Gathering.{Side, gathered}
 use Rattle.desk.specs.declared.Desk.{Desk}
-use Rattle.desk.specs.Desks.{byRole, callChecks, answeredBy, segmentAfter}
+use Rattle.desk.specs.Desks.{takenBy, callChecks, answeredBy, segmentAfter}
 use Rattle.segments.proofs.Heads.{head-read}
 
 -- ---- segments that the desk takes for the same
@@ -37,7 +37,7 @@ module _ {xs ys : List ℕ} (a : Alike xs ys) where
   gathered-alike k s = simp (a .number, a .last, a .payload)
 
 pub alike-same : (d : Desk) (xs ys first second : List ℕ) → Alike xs ys → segmentAfter d xs first second ≡ segmentAfter d ys first second
-unfolding segmentAfter byRole
+unfolding segmentAfter takenBy
 alike-same d xs ys first second a = rw (checks-alike a) (go (callChecks d ys first second))
   where
     go : (v : Checked) → answeredBy v d xs first second ≡ answeredBy v d ys first second

@@ -70,10 +70,14 @@ newFrame d = cond (wellFormed d) (emptied (d .marks .coming) 0 (not (d .marks .s
 
 -- ---- the two lent buffers by their roles
 
--- the one for this frame or the next
+-- whether the first of them is the one for this frame or the next
+abbrev pub firstServes : Kind → Bool → Bool
+firstServes This swapped = not swapped
+firstServes Next swapped = swapped
+
+-- that one of them
 abbrev pub lentFor : {A : Type 0} → Kind → Bool → A → A → A
-lentFor This swapped first second = cond swapped second first
-lentFor Next swapped first second = cond swapped first second
+lentFor k swapped first second = cond (firstServes k swapped) first second
 
 abbrev pub tooShort : List ℕ → Bool
 tooShort buffer = ltb (length buffer) longestListing
@@ -96,31 +100,25 @@ lengthAfter (Missing n) before = before
 lengthAfter (Listed k n) before = n
 lengthAfter (Refused f) before = before
 
--- what a segment of a kind may read and alter: that kind's slot, and its buffer of the two by their roles
-abbrev pub sideOf : Kind → Desk → List ℕ → List ℕ → Side
-sideOf k d shown coming = side (slotFor k (d .marks)) (bytesFor k d) (lentFor k false shown coming)
+-- what a segment of the kind k may read and alter besides: that kind's slot, and its buffer
+abbrev pub sideOf : Kind → Desk → List ℕ → Side
+sideOf k d buffer = side (slotFor k (d .marks)) (bytesFor k d) buffer
 
--- the desk and the buffers with that altered, and the length of that kind's listing
-abbrev pub altered : Kind → Desk → List ℕ → List ℕ → Outcome → After
-altered This d shown coming o =
+-- the desk with that slot and the length of that kind's listing as an outcome has them
+abbrev pub altered : Kind → Desk → Outcome → Desk
+altered This d o =
     let m = d .marks in
-    after (o .answer)
-    (desk (record { this = o .side .slot; next = m .next; shown = lengthAfter (o .answer) (m .shown); coming = m .coming; swapped = m .swapped }) (o .side .bytes) (d .next))
-    (o .side .buffer) coming
-altered Next d shown coming o =
+    desk (record { this = o .side .slot; next = m .next; shown = lengthAfter (o .answer) (m .shown); coming = m .coming; swapped = m .swapped }) (o .side .bytes) (d .next)
+altered Next d o =
     let m = d .marks in
-    after (o .answer)
-    (desk (record { this = m .this; next = o .side .slot; shown = m .shown; coming = lengthAfter (o .answer) (m .coming); swapped = m .swapped }) (d .this) (o .side .bytes))
-    shown (o .side .buffer)
+    desk (record { this = m .this; next = o .side .slot; shown = m .shown; coming = lengthAfter (o .answer) (m .coming); swapped = m .swapped }) (d .this) (o .side .bytes)
 
-unfoldable pub byRole : Kind → Desk → List ℕ → List ℕ → List ℕ → After
-byRole k d xs shown coming = altered k d shown coming (gathered k xs (sideOf k d shown coming))
-
-abbrev pub exchanged : After → After
-exchanged r = after (r .answer) (r .desk) (r .second) (r .first)
-
-abbrev pub takenBy : Kind → Desk → List ℕ → List ℕ → List ℕ → After
-takenBy k d xs first second = cond (d .marks .swapped) (exchanged (byRole k d xs second first)) (byRole k d xs first second)
+-- the answer, the desk and both buffers, of which only that kind's may change
+unfoldable pub takenBy : Kind → Desk → List ℕ → List ℕ → List ℕ → After
+takenBy k d xs first second =
+    let mine = firstServes k (d .marks .swapped) in
+    let o = gathered k xs (sideOf k d (cond mine first second)) in
+    after (o .answer) (altered k d o) (cond mine (o .side .buffer) first) (cond mine second (o .side .buffer))
 
 -- 12, 1, then the checks on the segment itself
 abbrev pub callChecks : Desk → List ℕ → List ℕ → List ℕ → Checked

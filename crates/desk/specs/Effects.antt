@@ -1,19 +1,24 @@
--- What a segment leaves as it was, and the ways in which a refusal goes: document 01's two effects, and no third.
+-- What a segment leaves as it was, when it is refused, and the ways in which a refusal goes: document 01's two effects, and no third.
 use Prim.Native.Nat.{ℕ, _*_}
 use mathlib.Core.Path.{_≡_}
-use mathlib.Core.Bool.{Bool}
+use mathlib.Core.Bool.{Bool, cond, not, _&&_}
 use mathlib.Core.List.{List, [], _∷_}
-use lib.Dec.{T}
+use lib.Dec.{T, eqb}
 use lib.Seq.{sets}
 use Rattle.meaning.specs.declared.Kind.{Kind}
 use Rattle.meaning.specs.declared.Refusal.{Refusal}
+use Rattle.meaning.specs.declared.Refusal.the-variants.{Clash}
+use Rattle.meaning.specs.declared.Checked.{Checked}
+use Rattle.meaning.specs.declared.Checked.the-variants.{Fine}
 use Rattle.meaning.specs.Numbers.{numberOf, among}
+use Rattle.meaning.specs.Reading.{check, andThen, checks}
 use Rattle.slots.specs.declared.Slot.{Slot}
 use Rattle.slots.specs.declared.Answer.the-variants.{Refused}
 use Rattle.segments.specs.Segment.{payloadBytes, segmentKind, numberIn, payloadIn}
-use Rattle.slots.specs.Slots.{noBytes, spoiledSlot, missingIn, holding}
+use Rattle.slots.specs.Slots.{noBytes, holds, spoiledSlot, missingIn, clashing, holding}
+use Rattle.slots.specs.Gathering.{hold, chunkIn, kindChecks}
 use Rattle.desk.specs.declared.Desk.{Desk}
-use Rattle.desk.specs.Desks.{slotFor, bytesFor, lengthFor, lentFor, After, after}
+use Rattle.desk.specs.Desks.{slotFor, bytesFor, lengthFor, lentFor, sideOf, After, after, callChecks}
 
 -- what a desk has for the kind j, and that kind's buffer, are as they were; so are the buffers' roles
 abbrev pub Kept : Bool → Kind → Desk → List ℕ → List ℕ → After → Type 0
@@ -23,6 +28,21 @@ Kept swapped j d first second r =
     × (lengthFor j (r .desk .marks) ≡ lengthFor j (d .marks))
     × (lentFor j swapped (r .first) (r .second) ≡ lentFor j swapped first second)
     × (r .desk .marks .swapped ≡ d .marks .swapped)
+
+-- ---- refusals: the order of all checks on a segment
+
+-- 12, 1 to 6, 7; then, on the chunk that the segment completes, the reader's and 10
+unfoldable pub segmentFault : Desk → List ℕ → List ℕ → List ℕ → Checked
+segmentFault d xs first second =
+    let k = segmentKind xs in
+    let s = sideOf k d [] in
+    let chunk = chunkIn (hold xs s) in
+    let completes = not (holds (s .slot .held) (numberIn xs)) && eqb (missingIn (hold xs s .slot)) 0 in
+    andThen (callChecks d xs first second)
+    (check (clashing (s .slot) (s .bytes) xs) Clash
+    (cond completes (kindChecks (checks chunk) k chunk) Fine))
+
+-- ---- refusals: what they change
 
 -- the numbers that are given before the slot is looked at, and for a complete chunk
 abbrev pub earlyNumbers : List ℕ

@@ -15,8 +15,9 @@ ghost use lib.ListN.{length as List·length};
 ghost use denote.Ref.{ptr};
 ghost use Rattle.meaning.specs.Sizes.{longestListing};
 ghost use Rattle.segments.specs.Segment.{segmentChecks, segmentKind};
-ghost use Rattle.desk.specs.Desks.{desk as Desks·desk, emptied as Desks·emptied, fresh as Desks·fresh, lengthFits, wellFormed, newGathering, newFrame, after, segmentAfter, byRole, lengthAfter, lentFor, shownLength, shown as Desks·shown};
+ghost use Rattle.desk.specs.Desks.{desk as Desks·desk, emptied as Desks·emptied, fresh as Desks·fresh, lengthFits, wellFormed, newGathering, newFrame, after, segmentAfter, sideOf, altered, lengthAfter, firstServes, lentFor, shownLength, shown as Desks·shown};
 ghost use Rattle.slots.specs.Slots.{emptySlot, noBytes, slotFits};
+ghost use Rattle.slots.specs.Gathering.{gathered};
 
 // The desk's numbers: the slots, the lengths of the listings for this frame and for the next (0 is none), and whether the second buffer
 // serves this frame.
@@ -146,24 +147,23 @@ fn length_after(answer: Answer, before: usize) -> usize
     }
 }
 
-// A segment that passed the checks on itself, with the buffers by their roles.
+// A segment of a kind that passed the checks on itself, with the buffer of that kind.
 fn steer(
+    kind: Kind,
     marks: Marks,
     this: &mut [u8; 560],
     next: &mut [u8; 560],
     seg: &[u8],
-    shown: &mut [u8],
-    coming: &mut [u8],
+    buffer: &mut [u8],
 ) -> Driven
-    requires { ⌜ (slotFits (marks .this) (now this) ≡ true) × (slotFits (marks .next) (now next) ≡ true) × (segmentChecks (now seg) ≡ Checked.Fine) ⌝ }
-    requires { ⌜ (longestListing ≤ length (now shown)) × (longestListing ≤ length (now coming)) ⌝ }
-    ensures { λ r. ⌜ after (r .answer) (Desks·desk (r .marks) (now (this .exit)) (now (next .exit))) (now (shown .exit)) (now (coming .exit)) ≡ byRole (segmentKind (now (seg .entry))) (Desks·desk marks (now (this .entry)) (now (next .entry))) (now (seg .entry)) (now (shown .entry)) (now (coming .entry)) ⌝ }
+    requires { ⌜ (slotFits (marks .this) (now this) ≡ true) × (slotFits (marks .next) (now next) ≡ true) × (segmentChecks (now seg) ≡ Checked.Fine) × (longestListing ≤ length (now buffer)) ⌝ }
+    ensures { λ r. ⌜ (let d = Desks·desk marks (now (this .entry)) (now (next .entry)) in let o = gathered kind (now (seg .entry)) (sideOf kind d (now (buffer .entry))) in (r .answer ≡ o .answer) × (Desks·desk (r .marks) (now (this .exit)) (now (next .exit)) ≡ altered kind d o) × (now (buffer .exit) ≡ o .side .buffer)) ⌝ }
 {
     let mine = marks.this;
     let other = marks.next;
-    match meaning::kind_of(seg[0] / 2 % 2) {
+    match kind {
         Kind::This => {
-            let g = slots::gather(Kind::This, mine, this, seg, shown);
+            let g = slots::gather(Kind::This, mine, this, seg, buffer);
             let answer = g.answer;
             let slot = g.slot;
             Driven {
@@ -178,7 +178,7 @@ fn steer(
             }
         }
         Kind::Next => {
-            let g = slots::gather(Kind::Next, other, next, seg, coming);
+            let g = slots::gather(Kind::Next, other, next, seg, buffer);
             let answer = g.answer;
             let slot = g.slot;
             Driven {
@@ -192,6 +192,16 @@ fn steer(
                 },
             }
         }
+    }
+}
+
+// Whether the first buffer serves this frame or the next.
+fn first_serves(kind: Kind, swapped: bool) -> bool
+    ensures { λ r. ⌜ r ≡ firstServes kind swapped ⌝ }
+{
+    match kind {
+        Kind::This => !swapped,
+        Kind::Next => swapped,
     }
 }
 
@@ -229,10 +239,11 @@ pub fn drive(
             marks: marks,
         },
         Checked::Fine => {
-            if marks.swapped {
-                steer(marks, this, next, seg, second, first)
+            let kind = meaning::kind_of(seg[0] / 2 % 2);
+            if first_serves(kind, marks.swapped) {
+                steer(kind, marks, this, next, seg, first)
             } else {
-                steer(marks, this, next, seg, first, second)
+                steer(kind, marks, this, next, seg, second)
             }
         }
     }
@@ -346,16 +357,6 @@ impl Desk {
     }
 }
 
-// Whether the second buffer serves this frame or the next.
-fn second_serves(kind: Kind, swapped: bool) -> bool
-    ensures { λ r. ⌜ r ≡ lentFor kind swapped false true ⌝ }
-{
-    match kind {
-        Kind::This => swapped,
-        Kind::Next => !swapped,
-    }
-}
-
 // The first bytes of the buffer that serves this frame or the next. Internal.
 pub fn part<'a>(
     kind: Kind,
@@ -368,9 +369,9 @@ pub fn part<'a>(
     ensures { λ r. ⌜ now r ≡ take length (lentFor kind swapped (now (first .entry)) (now (second .entry))) ⌝ }
     ensures { λ r. ⌜ ptr r ≡ lentFor kind swapped (ptr (first .entry)) (ptr (second .entry)) ⌝ }
 {
-    if second_serves(kind, swapped) {
-        &second[..length]
-    } else {
+    if first_serves(kind, swapped) {
         &first[..length]
+    } else {
+        &second[..length]
     }
 }

@@ -3,7 +3,6 @@ use mathlib.Core.Path.{_≡_, refl, sym, ap, _∙_, subst}
 use mathlib.Core.Bool.{Bool, true, false, true≢false}
 use mathlib.Core.List.{List, _++_}
 use Prim.Native.Nat.{ℕ, suc, _-_, _*_, _≤_, _<_}
-use native.Mathlib.Omega.{arith}
 use lib.ListN.{length, drop}
 use lib.Count.{ones}
 use Rattle.meaning.specs.declared.Kind.{Kind}
@@ -15,17 +14,16 @@ use Rattle.meaning.specs.Reading.{Accepts}
 use Rattle.segments.specs.Segment.{payloadBytes}
 use Rattle.slots.specs.declared.Answer.{Answer}
 use Rattle.slots.specs.declared.Answer.the-variants.{Missing, Listed}
-use Rattle.slots.specs.Slots.{emptySlot, holds, including, missingIn, slotFits}
+use Rattle.slots.specs.Slots.{emptySlot, holds, including, slotFits}
 use Rattle.slots.specs.Gathering.{Side, side, Outcome, outcome, hold, gathered}
 use Rattle.slots.proofs.Bits.{holds-none}
 use Rattle.desk.specs.declared.Desk.{Desk}
-use Rattle.desk.specs.Desks.{wellFormed, slotFor, bytesFor, lengthFor, otherKind, lentFor, After, after, segmentAfter}
-use Rattle.desk.specs.Effects.{Kept, Becomes}
+use Rattle.desk.specs.Desks.{wellFormed, slotFor, bytesFor, lengthFor, lentFor, After, after, segmentAfter}
+use Rattle.desk.proofs.Roles.{own, Takes, unlisted-becomes, missing-unchanged, segment-comes}
 use Rattle.desk.proofs.Keeps.{gathering-good, gathering-fits, segment-fits}
 use Rattle.desk.proofs.Refusals.{slot-fits}
-use Rattle.desk.proofs.Apart.{own, changed, segment-comes, left-changed, unlisted-changed, missing-unchanged, other-kept, Found, foundFor, found-changed}
 use Rattle.gatherings.specs.Deliveries.{AtStart}
-use Rattle.gatherings.proofs.Pieces.{Piece, OnlyPieces, gathered-held, hold-pieces, missing-less, gathered-free, gathered-all}
+use Rattle.gatherings.proofs.Pieces.{Piece, OnlyPieces, gathered-held, hold-pieces, gathered-free, gathered-all}
 
 -- ---- the desk is well formed, and its slot of the kind k holds some of the n pieces of a chunk and nothing else
 
@@ -60,7 +58,7 @@ module _ {n : ℕ} {whole : List ℕ} {k : Kind} {i : ℕ} {xs : List ℕ} (p : 
   swapped = d .marks .swapped
 
   abbrev before : Side
-  before = own swapped k d first second
+  before = own k d first second
 
   abbrev result : After
   result = segmentAfter d xs first second
@@ -71,59 +69,34 @@ module _ {n : ℕ} {whole : List ℕ} {k : Kind} {i : ℕ} {xs : List ℕ} (p : 
   fits : slotFits (slotFor k (d .marks)) (bytesFor k d) ≡ true
   fits = slot-fits k d (g .formed)
 
-  piece-comes : {o : Outcome} → o ≡ gathered k xs before → result ≡ changed swapped k d first second o
-  piece-comes e =
-      segment-comes d xs first second (record { formed = g .formed; left = one; right = two }) (p .passes)
-      ∙ ap (λ (j : Kind). changed swapped j d first second (gathered j xs (own swapped j d first second))) (p .kind)
-      ∙ ap (changed swapped k d first second) (sym e)
-
-  -- the other kind is left alone
-  pub piece-apart : Kept swapped (otherKind k) d first second result
-  piece-apart = subst (λ (j : Kind). Kept swapped (otherKind j) d first second result) (p .kind) (other-kept d xs first second)
+  piece-comes : {o : Outcome} → o ≡ gathered k xs before → Takes k d first second o result
+  piece-comes e = rw e (segment-comes d xs first second k (p .kind) (record { formed = g .formed; left = one; right = two }) (p .passes))
 
   -- one that is held changes nothing
   pub piece-repeat : holds held i ≡ true → result ≡ after (Missing (n - ones held)) d first second
-  piece-repeat t =
-      piece-comes (gathered-held p before (g .only) fits t) ∙ missing-unchanged (n - ones held) swapped k d first second
+  piece-repeat t = missing-unchanged k d first second result (piece-comes (gathered-held p before (g .only) fits t))
 
   -- one that is not held is held then
   module _ (free : holds held i ≡ false) where
     abbrev more : Side
     more = hold xs before
 
-    piece-found : {a : Answer} {buffer : List ℕ} → outcome a (side (more .slot) (more .bytes) buffer) ≡ gathered k xs before → foundFor k result ≡ (a, more .slot, more .bytes)
-    piece-found e = ap (foundFor k) (piece-comes e) ∙ found-changed swapped k d first second _
-
-    piece-held : {a : Answer} {buffer : List ℕ} → outcome a (side (more .slot) (more .bytes) buffer) ≡ gathered k xs before → (result .answer ≡ a) × Gathers n whole k (result .desk) × (slotFor k (result .desk .marks) .held ≡ including held i)
-    piece-held e =
-        let q = piece-found e in (
-          ap (λ (x : Found). x .0) q,
-          record {
-            formed = segment-fits d xs first second (g .formed);
-            only = subst (λ (x : Found). OnlyPieces n whole (x .1) (x .2)) (sym q) (hold-pieces p before (g .only) fits free);
-          },
-          ap (λ (x : Found). x .1 .held) q ∙ ap (including held) (p .number),
-        )
+    piece-held : {a : Answer} {buffer : List ℕ} → Takes k d first second (outcome a (side (more .slot) (more .bytes) buffer)) result → (result .answer ≡ a) × Gathers n whole k (result .desk) × (slotFor k (result .desk .marks) .held ≡ including held i)
+    piece-held h = (
+      h .answer,
+      record { formed = segment-fits d xs first second (g .formed); only = rw (h .slot, h .bytes) (hold-pieces p before (g .only) fits free) },
+      rw (h .slot, p .number) refl,
+    )
 
     pub piece-more : suc (ones held) < n → (result .answer ≡ Missing (n - suc (ones held))) × Gathers n whole k (result .desk) × (slotFor k (result .desk .marks) .held ≡ including held i) × (lengthFor k (result .desk .marks) ≡ lengthFor k (d .marks)) × (result .first ≡ first) × (result .second ≡ second)
     piece-more l =
-        let e = gathered-free p before (g .only) fits free l in
-        let h = piece-held e in
-        let b = subst (Becomes k d first second (more .slot) (more .bytes)) (sym (piece-comes e)) (unlisted-changed (Missing (n - suc (ones held))) (λ m. refl) swapped k d first second (more .slot) (more .bytes)) in
-        (h .0, h .1, h .2, b .2, b .3, b .4)
+        let h = piece-comes (gathered-free p before (g .only) fits free l) in
+        let q = piece-held h in
+        let b = unlisted-becomes h (λ m. refl) refl in
+        (q .0, q .1, q .2, b .2, b .3, b .4)
 
-    pub piece-last : {m : ℕ} {l : FicList} → length whole ≡ payloadBytes * n → Accepts whole k m l → suc (ones held) ≡ n → (result .answer ≡ Listed k (length (listing l))) × Gathers n whole k (result .desk) × (slotFor k (result .desk .marks) .held ≡ including held i) × (missingIn (slotFor k (result .desk .marks)) ≡ 0) × (lengthFor k (result .desk .marks) ≡ length (listing l)) × (lentFor k swapped (result .first) (result .second) ≡ listing l ++ drop (length (listing l)) (lentFor k swapped first second)) × (lentFor (otherKind k) swapped (result .first) (result .second) ≡ lentFor (otherKind k) swapped first second)
+    pub piece-last : {m : ℕ} {l : FicList} → length whole ≡ payloadBytes * n → Accepts whole k m l → suc (ones held) ≡ n → (result .answer ≡ Listed k (length (listing l))) × Gathers n whole k (result .desk) × (slotFor k (result .desk .marks) .held ≡ including held i) × (lengthFor k (result .desk .marks) ≡ length (listing l)) × (lentFor k swapped (result .first) (result .second) ≡ listing l ++ drop (length (listing l)) (lentFor k swapped first second))
     piece-last size accepts all =
-        let e = gathered-all p before (g .only) fits free size accepts all in
-        let h = piece-held e in
-        let q = piece-comes e in
-        let none : missingIn (more .slot) ≡ 0 = omega (arith, missing-less p before (g .only) fits free) in
-        let b = left-changed swapped k d first second _ in (
-          h .0,
-          h .1,
-          h .2,
-          ap (λ (x : Found). missingIn (x .1)) (piece-found e) ∙ none,
-          ap (λ (r : After). lengthFor k (r .desk .marks)) q ∙ b .1,
-          ap (λ (r : After). lentFor k swapped (r .first) (r .second)) q ∙ b .0,
-          piece-apart .3,
-        )
+        let h = piece-comes (gathered-all p before (g .only) fits free size accepts all) in
+        let q = piece-held h in
+        (q .0, q .1, q .2, h .size, h .buffer)

@@ -1,78 +1,85 @@
--- A chunk that is accepted, cut in any way and delivered in order: the answers count down, and its list is listed and shown. Assumes nothing.
-use mathlib.Core.Path.{_≡_, refl, ap, ap₂, _∙_, subst}
-use mathlib.Core.Bool.{Bool, false}
-use mathlib.Core.List.{List, [], _∷_, _++_, map}
+-- A chunk that carries a list, cut in any way and delivered in order: the answers count down, and its list is listed and shown. Assumes nothing.
+use mathlib.Core.Path.{_≡_, refl, sym, ap, ap₂, _∙_, subst}
+use mathlib.Core.Bool.{Bool, false, cond}
+use mathlib.Core.List.{List, [], _∷_, map, map-map}
 use Prim.Native.Nat.{ℕ, zero, suc, _+_, _-_, _≤_, _<_}
 use native.Mathlib.Omega.{arith}
-use lib.ListN.{length, take, drop}
-use lib.Seq.{take-at}
-use lib.Count.{ones}
-use Rattle.octets.specs.Bits.{Bytes}
+use borrow.Author.Tests.{ne-eqb, eqb-false}
+use lib.Dec.{T, eqb, eqb·suc-zero}
+use lib.ListN.{length}
+use Rattle.octets.specs.Each.{Each}
+use Rattle.octets.proofs.Laws.{either}
 use Rattle.meaning.specs.declared.Kind.{Kind}
-use Rattle.meaning.specs.Sizes.{longestChunk, longestListing}
+use Rattle.meaning.specs.Sizes.{longestListing}
+use Rattle.meaning.specs.Numbers.{among}
 use Rattle.meaning.specs.Lists.{FicList}
+use Rattle.meaning.specs.Layout.{Carries}
 use Rattle.meaning.specs.Listing.{listing}
-use Rattle.meaning.specs.Reading.{Accepts}
 use Rattle.segments.specs.Cut.{segmentsFor, Choice, Suits, pieceOf, upFrom, cut}
 use Rattle.slots.specs.declared.Answer.{Answer}
-use Rattle.slots.specs.declared.Answer.the-variants.{Missing}
-use Rattle.slots.specs.Slots.{holds, including}
-use Rattle.slots.proofs.Bits.{holds-none, holds-other, ones-including}
+use Rattle.slots.specs.declared.Answer.the-variants.{Missing, Listed}
 use Rattle.desk.specs.declared.Desk.{Desk}
-use Rattle.desk.specs.Desks.{slotFor, lentFor, After, segmentAfter}
-use Rattle.desk.proofs.Frames.{listed-shown}
-use Rattle.gatherings.specs.Deliveries.{AtStart, Told, delivered, countdown, Comes}
-use Rattle.gatherings.proofs.Gathers.{Gathers, start-empty, start-gathers, piece-apart, piece-more, piece-last}
+use Rattle.desk.specs.Desks.{otherKind, lentFor, After}
+use Rattle.gatherings.specs.Deliveries.{AtStart, Call, deliveredBy, delivered, wholly, countdown, Comes}
+use Rattle.gatherings.specs.Once.{Delivery, piece, callFor, Allowed, numbersOf, different, pieceAnswers, atPieces}
+use Rattle.gatherings.proofs.Memory.{called, called-kept}
 use Rattle.gatherings.proofs.Cuts.{cut-piece}
+use Rattle.gatherings.proofs.Once.{lists-all}
 
--- ---- the first i places are held and no other
+-- the answers count down one by one
+countdown-next : (k : Kind) (size j : ℕ) → countdown k size (suc j) ≡ cond (eqb j 0) (Listed k size) (Missing j) ∷ countdown k size j
+unfolding countdown
+countdown-next k size zero = refl
+countdown-next k size (suc j) = simp (eqb·suc-zero j)
 
-record Upto (i held : ℕ) : Type 0 where
-  count : ones held ≡ i
-  above : (j : ℕ) → i ≤ j → holds held j ≡ false
+module _ {ys : List ℕ} {k : Kind} {m : ℕ} {l : FicList} {c : Choice} (carries : Carries ys k m l) (suits : Suits ys c) where
+  abbrev n : ℕ
+  n = segmentsFor (length ys)
 
-upto-none : Upto 0 0
-unfolding ones
-upto-none = record { count = refl; above = λ j l. holds-none j }
+  abbrev size : ℕ
+  size = length (listing l)
 
-upto-next : {i held : ℕ} → Upto i held → Upto (suc i) (including held i)
-upto-next {i} {held} u =
-    let free = u .above i (omega arith) in
-    record {
-      count = ones-including held i free ∙ ap suc (u .count);
-      above = λ j l. holds-other held i j free (λ e. omega arith) ∙ u .above j (omega arith);
-    }
+  -- j pieces from the number i on, each lent so many bytes of the two memories
+  module _ (a b : ℕ) where
+    abbrev inOrder : ℕ → ℕ → List Delivery
+    inOrder i j = map (λ p. piece p (c .reserved p) (c .wake p) a b) (upFrom i j)
 
--- ---- a chunk ys with its stuffing
+    order-answers : longestListing ≤ a → longestListing ≤ b → (j i : ℕ) (came : List ℕ) → i + j ≡ n → different came ≡ i → ((p : ℕ) → i ≤ p → among came p ≡ false) → let ds = inOrder i j in Each (Allowed n k) ds × ((p : ℕ) → i ≤ p → p < n → T (among (numbersOf ds) p)) × (pieceAnswers n k size came (numbersOf ds) ≡ countdown k size j)
+    unfolding upFrom countdown
+    order-answers one two zero i came e count above = (tt, λ p low high. absurd (omega arith), refl)
+    order-answers one two (suc j) i came e count above =
+        let free = above i (omega arith) in
+        let missing : n - suc i ≡ j = omega arith in
+        let t =
+        order-answers one two j (suc i) (i ∷ came) (omega arith) (simp (free, count))
+        (λ p low. let apart : p ≡ i → ⊥ = λ s. omega arith in simp (ne-eqb p i apart, above p (omega arith))) in (
+          ((omega arith, suits .reserved i, suits .wake i, one, two), t .0),
+          λ p low high. either (eqb p i) (λ q. simp q tt) (λ q. simp q (t .1 p (omega (arith, eqb-false p i q)) high)),
+          ap₂ _∷_ (simp (free, count, missing)) (t .2) ∙ sym (countdown-next k size j),
+        )
 
-module _ (ys : List ℕ) (k : Kind) (m : ℕ) (l : FicList) (c : Choice) (bytes : Bytes ys) (two : 2 ≤ length ys) (room : length ys ≤ longestChunk) (suits : Suits ys c) (accepts : Accepts (ys ++ c .fill) k m l) where
-  rest-delivered : (j i : ℕ) → i + j ≡ segmentsFor (length ys) → 0 < j → (d : Desk) → Gathers (segmentsFor (length ys)) (ys ++ c .fill) k d → Upto i (slotFor k (d .marks) .held) → (first second : List ℕ) → longestListing ≤ length first → longestListing ≤ length second → Comes k (listing l) j (d .marks .swapped) first second (delivered d (map (pieceOf ys c) (upFrom i j)) first second)
-  unfolding delivered countdown upFrom
-  rest-delivered zero i e some d g u first second left right = absurd (omega arith)
-  rest-delivered (suc zero) i e some d g u first second left right =
-      let p = cut-piece bytes two room suits accepts i (omega arith) in
-      let r = piece-last p d g first second left right (u .above i (omega arith)) (suits .whole) accepts (omega (arith, u .count)) in
-      record {
-        answers = ap (λ (a : Answer). a ∷ []) (r .0);
-        own = r .5;
-        other = r .6;
-        shows =
-            listed-shown d (pieceOf ys c i) first second k (length (listing l)) (r .0) .4
-            ∙ ap (take (length (listing l))) (r .5)
-            ∙ take-at (listing l) (drop (length (listing l)) (lentFor k (d .marks .swapped) first second)) (length (listing l)) refl;
-      }
-  rest-delivered (suc (suc j)) i e some d g u first second left right =
-      let p = cut-piece bytes two room suits accepts i (omega arith) in
-      let after : After = segmentAfter d (pieceOf ys c i) first second in
-      let r = piece-more p d g first second left right (u .above i (omega arith)) (omega (arith, u .count)) in
-      let count : segmentsFor (length ys) - suc (ones (slotFor k (d .marks) .held)) ≡ suc j = omega (arith, u .count) in
-      let swapped : after .desk .marks .swapped ≡ d .marks .swapped = piece-apart p d g first second left right .4 in
-      let t : Told = delivered (after .desk) (map (pieceOf ys c) (upFrom (suc i) (suc j))) (after .first) (after .second) in
-      let next : Comes k (listing l) (suc j) (d .marks .swapped) first second t =
-      subst (λ (x : Bool × List ℕ × List ℕ). Comes k (listing l) (suc j) (x .0) (x .1) (x .2) t) (λ q. (swapped q, r .4 q, r .5 q))
-      (rest-delivered (suc j) (suc i) (omega arith) (omega arith) (after .desk) (r .1) (rw (r .2) (upto-next u)) (after .first) (after .second) (rw (r .4) left) (rw (r .5) right)) in
-      record { answers = ap₂ _∷_ (r .0 ∙ ap Missing count) (next .answers); own = next .own; other = next .other; shows = next .shows }
+    -- every answer is to a piece, and the other kind's memory is as it was
+    order-told : (j i : ℕ) → i + j ≡ n → (swapped : Bool) (d : Desk) (first second : List ℕ) → d .marks .swapped ≡ swapped → let t = delivered d (map (callFor ys (c .fill)) (inOrder i j)) first second in (atPieces (inOrder i j) (t .answers) ≡ t .answers) × (lentFor (otherKind k) swapped (t .first) (t .second) ≡ lentFor (otherKind k) swapped first second)
+    unfolding deliveredBy pieceOf upFrom
+    order-told zero i e swapped d first second roles = (refl, refl)
+    order-told (suc j) i e swapped d first second roles =
+        let call : Call = record { segment = pieceOf ys c i; first = a; second = b } in
+        let r : After = called d call first second in
+        let kept = called-kept d call first second (cut-piece carries suits i (omega arith) .kind) in
+        let t = order-told j (suc i) (omega arith) swapped (r .desk) (r .first) (r .second) (kept .4 ∙ roles) in
+        let same = subst (λ (s : Bool). lentFor (otherKind k) s (r .first) (r .second) ≡ lentFor (otherKind k) s first second) roles (kept .3) in
+        (ap (λ (x : List Answer). r .answer ∷ x) (t .0), t .1 ∙ same)
 
-  pub cut-delivered : (d : Desk) → AtStart d → (first second : List ℕ) → longestListing ≤ length first → longestListing ≤ length second → Comes k (listing l) (segmentsFor (length ys)) (d .marks .swapped) first second (delivered d (cut ys c) first second)
+  pub cut-delivered : (d : Desk) → AtStart d → (first second : List ℕ) → longestListing ≤ length first → longestListing ≤ length second → Comes k (listing l) (segmentsFor (length ys)) (d .marks .swapped) first second (delivered d (map (wholly first second) (cut ys c)) first second)
+  unfolding pieceOf
   cut-delivered d start first second left right =
-      rest-delivered (segmentsFor (length ys)) 0 (omega arith) (omega arith) d (start-gathers d start (segmentsFor (length ys)) (ys ++ c .fill) k) (rw (start-empty d start k) upto-none) first second left right
+      let a : ℕ = length first in
+      let b : ℕ = length second in
+      let s = order-answers a b left right n 0 [] (omega arith) refl (λ p low. refl) in
+      let t = order-told a b n 0 (omega arith) (d .marks .swapped) d first second refl in
+      let h =
+      lists-all ys k m l carries (c .fill) (suits .bytes) (suits .whole) (inOrder a b 0 n) (s .0) (λ p. s .1 p (omega arith))
+      d start first second left right in
+      subst (λ (x : List Call). Comes k (listing l) n (d .marks .swapped) first second (delivered d x first second))
+      (map-map _ _ (upFrom 0 n) ∙ sym (map-map (wholly first second) (pieceOf ys c) (upFrom 0 n)))
+      (record { answers = sym (t .0) ∙ h .answers ∙ s .2; own = h .own; other = t .1; shows = h .shows })

@@ -1,8 +1,16 @@
+pub mod Sets
+pub mod Counts
 pub mod Pieces
 pub mod Gathers
 pub mod Cuts
+pub mod Memory
+pub mod Others
+pub mod Stands
+pub mod Once
 pub mod InOrder
 pub mod Payloads
 pub mod Rounds
+pub mod Majors
 pub mod Starts
+pub mod KeepsFirst
 pub mod Printed

@@ -1,7 +1,7 @@
 -- The log of the segments that the writer gives, printed: the answers count down, then the listing stands there again. Assumes nothing.
 use mathlib.Core.Path.{_≡_, refl, sym, ap, ap₂, _∙_, subst}
 use mathlib.Core.Bool.{true}
-use mathlib.Core.List.{List, [], _∷_, _++_, flatMap, append-assoc, nil≢cons, head-eq-of-cons-eq, tail-eq-of-cons-eq}
+use mathlib.Core.List.{List, [], _∷_, _++_, map, flatMap, append-assoc, nil≢cons, head-eq-of-cons-eq, tail-eq-of-cons-eq}
 use Prim.Native.Nat.{ℕ, zero, suc, _+_, _*_, _/_, _%_, _≤_, _<_}
 use native.Mathlib.Omega.{arith}
 use borrow.Author.Tests.{ltb-true, ltb-false, ne-eqb, lt-ltb, le-ltb, le-leb, lt-leb}
@@ -32,7 +32,8 @@ use Rattle.lines.specs.declared.Entry.the-variants.{Segment}
 use Rattle.lines.specs.Text.{glyph, hex, answerLines, numbered, textEnd}
 use Rattle.lines.specs.Log.{state, entryIn, wholeRecord, recordBytes, segmentIn, next, linesFor, lastLine, printed}
 use Rattle.lines.proofs.Log.{printed-record, printed-last}
-use Rattle.gatherings.specs.Deliveries.{AtStart, delivered, countdown}
+use Rattle.gatherings.specs.Deliveries.{AtStart, Told, deliveredBy, delivered, wholly, countdown}
+use Rattle.gatherings.proofs.Memory.{delivered-whole}
 use Rattle.gatherings.proofs.Rounds.{segments-delivered}
 
 -- ---- one record
@@ -74,25 +75,29 @@ module _ (k : Kind) (xs : List ℕ) where
   abbrev lines : List Answer → List ℕ
   lines answers = flatMap (λ a. answerLines a xs) answers
 
-  told-printed : (n : ℕ) (segments : List (List ℕ)) (d : Desk) (first second : List ℕ) → Each (λ s. length s ≡ segmentBytes) segments → let t = delivered d segments first second in t .answers ≡ countdown k (length xs) n → shown k (t .desk) (t .first) (t .second) ≡ xs → printed (state d first second) (logOf segments) ≡ lines (countdown k (length xs) n) ++ (textEnd ++ numbered 0)
-  unfolding delivered countdown flatMap answerLines
+  told-printed : (n : ℕ) (segments : List (List ℕ)) (d : Desk) (first second : List ℕ) → Each (λ s. length s ≡ segmentBytes) segments → let t = delivered d (map (wholly first second) segments) first second in t .answers ≡ countdown k (length xs) n → shown k (t .desk) (t .first) (t .second) ≡ xs → printed (state d first second) (logOf segments) ≡ lines (countdown k (length xs) n) ++ (textEnd ++ numbered 0)
+  unfolding deliveredBy countdown flatMap answerLines
   told-printed zero [] d first second h e shows = end-printed d first second
   told-printed zero (s ∷ more) d first second h e shows = absurd (nil≢cons (sym e))
   told-printed (suc zero) [] d first second h e shows = absurd (nil≢cons e)
   told-printed (suc zero) (s ∷ u ∷ more) d first second h e shows = absurd (nil≢cons (sym (tail-eq-of-cons-eq e)))
   told-printed (suc zero) (s ∷ []) d first second h e shows =
       let r : After = segmentAfter d s first second in
-      let list : r .answer ≡ Listed k (length xs) = head-eq-of-cons-eq e in
+      let w = sym (delivered-whole d s [] first second) in
+      let list : r .answer ≡ Listed k (length xs) = head-eq-of-cons-eq (ap (λ (t : Told). t .answers) w ∙ e) in
+      let there : shown k (r .desk) (r .first) (r .second) ≡ xs = ap (λ (t : Told). shown k (t .desk) (t .first) (t .second)) w ∙ shows in
       let kind : segmentKind s ≡ k = sym (listed-shown d s first second k (length xs) list .0) in
       record-printed s [] (h .0) d first second
-      ∙ ap₂ _++_ (ap₂ answerLines list (ap (λ (j : Kind). shown j (r .desk) (r .first) (r .second)) kind ∙ shows)) (end-printed (r .desk) (r .first) (r .second))
+      ∙ ap₂ _++_ (ap₂ answerLines list (ap (λ (j : Kind). shown j (r .desk) (r .first) (r .second)) kind ∙ there)) (end-printed (r .desk) (r .first) (r .second))
       ∙ sym (append-assoc (answerLines (Listed k (length xs)) xs) [] (textEnd ++ numbered 0))
   told-printed (suc (suc n)) [] d first second h e shows = absurd (nil≢cons e)
   told-printed (suc (suc n)) (s ∷ more) d first second h e shows =
       let r : After = segmentAfter d s first second in
+      let w = sym (delivered-whole d s more first second) in
+      let told = ap (λ (t : Told). t .answers) w ∙ e in
       record-printed s (logOf more) (h .0) d first second
-      ∙ ap₂ _++_ (ap (λ (a : Answer). answerLines a (shown (segmentKind s) (r .desk) (r .first) (r .second))) (head-eq-of-cons-eq e))
-      (told-printed (suc n) more (r .desk) (r .first) (r .second) (h .1) (tail-eq-of-cons-eq e) shows)
+      ∙ ap₂ _++_ (ap (λ (a : Answer). answerLines a (shown (segmentKind s) (r .desk) (r .first) (r .second))) (head-eq-of-cons-eq told))
+      (told-printed (suc n) more (r .desk) (r .first) (r .second) (h .1) (tail-eq-of-cons-eq told) (ap (λ (t : Told). shown k (t .desk) (t .first) (t .second)) w ∙ shows))
       ∙ sym (append-assoc (answerLines (Missing (suc n)) xs) (lines (countdown k (length xs) (suc n))) (textEnd ++ numbered 0))
 
 module _ (k : Kind) (l : FicList) (fits : Fits l) (room : plainLength l ≤ longestChunk) where

@@ -1,7 +1,7 @@
 -- Read after write, and write after read. Assumes nothing.
 use mathlib.Core.Path.{_≡_, sym, ap, ap₂, _∙_, subst}
 use mathlib.Core.Bool.{true}
-use mathlib.Core.List.{List, _++_}
+use mathlib.Core.List.{List, _++_, map}
 use Prim.Native.Nat.{ℕ, _*_, _≤_}
 use native.Mathlib.Omega.{arith}
 use lib.ListN.{length, take, drop}
@@ -18,10 +18,9 @@ use Rattle.meaning.specs.Listing.{listing}
 use Rattle.meaning.specs.Listed.{listingFits, listSaid}
 use Rattle.meaning.specs.Plain.{plain, Fits, plainLength, Oldest}
 use Rattle.meaning.specs.Reading.{ReadSays}
-use Rattle.meaning.proofs.Complete.{carried-accepted}
 use Rattle.meaning.proofs.Answers.{carried-says}
 use Rattle.meaning.proofs.Listed.{listing-fitting, said-listing, listing-said, said-fitting}
-use Rattle.meaning.proofs.Plain.{length-plain, plain-carried, bytes-carried, carried-fitting, carried-room, stuffed-carried, oldest-plain}
+use Rattle.meaning.proofs.Plain.{length-plain, plain-carried, bytes-carried, carried-fitting, carried-room, oldest-plain}
 use Rattle.segments.specs.Segment.{segmentBytes}
 use Rattle.segments.specs.Cut.{segmentsFor, Choice, joined}
 use Rattle.writer.specs.declared.Written.the-variants.{Segments}
@@ -30,8 +29,9 @@ use Rattle.writer.proofs.Answers.{checks-written, says-written}
 use Rattle.writer.proofs.Sent.{plainly-suits}
 use Rattle.writer.proofs.Outputs.{length-segmentsOf, segmentsOf-whole}
 use Rattle.desk.specs.declared.Desk.{Desk}
-use Rattle.gatherings.specs.Deliveries.{AtStart, delivered, Comes, segmentsIn, payloadsOf, listedBy}
+use Rattle.gatherings.specs.Deliveries.{AtStart, delivered, wholly, Comes, segmentsIn, payloadsOf, listedBy}
 use Rattle.gatherings.proofs.Payloads.{segments-found, payloads-cut}
+use Rattle.gatherings.proofs.Cuts.{cut-carried}
 use Rattle.gatherings.proofs.InOrder.{cut-delivered}
 
 -- ---- the segments of a list that fits, and is not too long
@@ -54,16 +54,13 @@ module _ (k : Kind) (l : FicList) (fits : Fits l) (room : plainLength l ≤ long
 
   -- the chunk with its stuffing carries the list too
   stuffed : Carries (chunk ++ choice .fill) k 0 l
-  stuffed =
-      let suits = plainly-suits chunk in
-      stuffed-carried carried (choice .fill) (suits .bytes) (omega (arith, suits .whole, length-plain k l fits))
+  stuffed = cut-carried carried (plainly-suits chunk)
 
-  pub segments-delivered : (d : Desk) → AtStart d → (first second : List ℕ) → longestListing ≤ length first → longestListing ≤ length second → Comes k (listing l) (segmentsFor (plainLength l)) (d .marks .swapped) first second (delivered d (segmentsOf k l) first second)
+  pub segments-delivered : (d : Desk) → AtStart d → (first second : List ℕ) → longestListing ≤ length first → longestListing ≤ length second → Comes k (listing l) (segmentsFor (plainLength l)) (d .marks .swapped) first second (delivered d (map (wholly first second) (segmentsOf k l)) first second)
   unfolding segmentsOf
   segments-delivered d start first second one other =
-      let long = length-plain k l fits in
-      subst (λ (n : ℕ). Comes k (listing l) (segmentsFor n) (d .marks .swapped) first second (delivered d (segmentsOf k l) first second)) long
-      (cut-delivered chunk k 0 l choice chunk-bytes (omega arith) (omega arith) (plainly-suits chunk) (carried-accepted stuffed) d start first second one other)
+      subst (λ (n : ℕ). Comes k (listing l) (segmentsFor n) (d .marks .swapped) first second (delivered d (map (wholly first second) (segmentsOf k l)) first second)) (length-plain k l fits)
+      (cut-delivered carried (plainly-suits chunk) d start first second one other)
 
   -- ---- its listing, written
 
@@ -115,10 +112,10 @@ module _ (xs : List ℕ) (k : Kind) (output : List ℕ) (bytes : Bytes xs) (fits
   pub written-so-many : writeAnswer xs k output ≡ Segments (segmentsFor (plainLength (listSaid xs)))
   written-so-many = subst (λ (ys : List ℕ). writeAnswer ys k output ≡ Segments n) same (written-count k l held room output space)
 
-  pub read-after-write : (d : Desk) → AtStart d → (first second : List ℕ) → longestListing ≤ length first → longestListing ≤ length second → let n = segmentsFor (plainLength (listSaid xs)) in Comes k xs n (d .marks .swapped) first second (delivered d (segmentsIn n (writeOutput xs k output)) first second)
+  pub read-after-write : (d : Desk) → AtStart d → (first second : List ℕ) → longestListing ≤ length first → longestListing ≤ length second → let n = segmentsFor (plainLength (listSaid xs)) in Comes k xs n (d .marks .swapped) first second (delivered d (map (wholly first second) (segmentsIn n (writeOutput xs k output))) first second)
   read-after-write d start first second one other =
-      subst (λ (ys : List ℕ). Comes k ys n (d .marks .swapped) first second (delivered d (segmentsIn n (writeOutput ys k output)) first second)) same
-      (subst (λ (s : List (List ℕ)). Comes k (listing l) n (d .marks .swapped) first second (delivered d s first second)) (sym (written-segments k l held room output space))
+      subst (λ (ys : List ℕ). Comes k ys n (d .marks .swapped) first second (delivered d (map (wholly first second) (segmentsIn n (writeOutput ys k output))) first second)) same
+      (subst (λ (s : List (List ℕ)). Comes k (listing l) n (d .marks .swapped) first second (delivered d (map (wholly first second) s) first second)) (sym (written-segments k l held room output space))
       (segments-delivered k l held room d start first second one other))
 
   pub read-whole-after-write : (before : List ℕ) → longestListing ≤ length before → ReadSays (payloadsOf (segmentsIn (segmentsFor (plainLength (listSaid xs))) (writeOutput xs k output))) before (Listed k 0 (length xs)) (xs ++ drop (length xs) before)

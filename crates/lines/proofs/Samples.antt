@@ -10,7 +10,7 @@ use Rattle.meaning.specs.Reading.{ensemblesChecks, checks, servicesAt, ensemble
 use Rattle.segments.specs.Segment.{segmentChecks}
 use Rattle.slots.specs.Slots.{zeros, slotFits, clashing}
 use Rattle.slots.specs.Gathering.{completed, gathered}
-use Rattle.desk.specs.Desks.{fresh, wellFormed, newFrame, byRole, segmentAfter, shownLength, shown}
+use Rattle.desk.specs.Desks.{fresh, wellFormed, newFrame, takenBy, segmentAfter, shownLength, shown}
 use Rattle.lines.specs.Text.{digits, hex, frameLines, answerLines}
 use Rattle.lines.specs.Log.{State, state, entryIn, next, linesFor, lastLine, transcript, printed}
 
@@ -34,5 +34,5 @@ sampleText =
     69 ∷ 78 ∷ 68 ∷ 32 ∷ 48 ∷ 10 ∷ []
 
 pub sample-printed : printed start sampleLog ≡ sampleText
-unfolding printed transcript entryIn next linesFor lastLine frameLines answerLines hex digits flatMap shown shownLength newFrame segmentAfter byRole wellFormed slotFits clashing gathered completed segmentChecks checks ensemblesChecks listIn ensemblesAt servicesAt listing ensembleListing ones onesIn
+unfolding printed transcript entryIn next linesFor lastLine frameLines answerLines hex digits flatMap shown shownLength newFrame segmentAfter takenBy wellFormed slotFits clashing gathered completed segmentChecks checks ensemblesChecks listIn ensemblesAt servicesAt listing ensembleListing ones onesIn
 sample-printed = refl

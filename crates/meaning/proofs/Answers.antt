@@ -1,6 +1,6 @@
 -- What the public call answers and leaves, case by case; and that its promise has one result only. Assumes nothing.
 use mathlib.Core.Path.{_≡_, refl, sym, ap, _∙_, subst}
-use mathlib.Core.Bool.{Bool, true, false, cond, not, _||_}
+use mathlib.Core.Bool.{Bool, true, false, not, _||_}
 use mathlib.Core.List.{List, [], _∷_, _++_}
 use Prim.Native.Nat.{ℕ, zero, suc, _+_, _≤_, _<_}
 use native.Mathlib.Omega.{arith}
@@ -16,11 +16,11 @@ use Rattle.meaning.specs.declared.Checked.the-variants.{Fine, Fault}
 use Rattle.meaning.specs.declared.Read.{Read}
 use Rattle.meaning.specs.declared.Read.the-variants.{Listed, Refused}
 use Rattle.meaning.specs.Sizes.{longestChunk, headerBytes, ensembleBytes, longestListing}
-use Rattle.meaning.specs.Numbers.{numberOf, readNumber, readMinor, readLength, among}
+use Rattle.meaning.specs.Numbers.{numberOf, readNumber, readMinor, readLength, among, readFault}
 use Rattle.meaning.specs.Lists.{FicList}
 use Rattle.meaning.specs.Layout.{Carries}
 use Rattle.meaning.specs.Listing.{listing}
-use Rattle.meaning.specs.Reading.{check, checks, ensemblesChecks, majorIn, hIn, versionIn, servicesRoom, inside, past, eIn, sIn, countIn, payload, kindIn, minorIn, listIn, answerTo, readAnswer, leftBy, readBuffer, ReadSays}
+use Rattle.meaning.specs.Reading.{check, checks, ensemblesChecks, majorIn, hIn, versionIn, servicesRoom, inside, past, eIn, sIn, countIn, payload, kindIn, minorIn, listIn, readChecks, readFor, readAnswer, leftBy, readBuffer, ReadSays}
 use Rattle.meaning.proofs.Checks.{checks-major}
 use Rattle.meaning.proofs.Complete.{carried-accepted}
 use Rattle.meaning.proofs.Sound.{accepted-carried}
@@ -30,11 +30,20 @@ says : (xs before : List ℕ) {answer : Read} → answer ≡ readAnswer xs befor
 unfolding readBuffer
 says xs before e = record { answers = e; leaves = ap (λ (r : Read). leftBy r xs before) e }
 
+-- a refusal is answered exactly as the checks say
+pub answer-exactly : (xs before : List ℕ) → readFault (readAnswer xs before) ≡ readChecks xs before
+unfolding readAnswer
+answer-exactly xs before = go (readChecks xs before)
+  where
+    go : (v : Checked) → readFault (readFor v xs) ≡ v
+    go Fine = refl
+    go (Fault f) = refl
+
 answer-short : (xs before : List ℕ) → length before < longestListing → readAnswer xs before ≡ Refused ShortBuffer
 unfolding readAnswer
 answer-short xs before h = simp (lt-ltb _ _ h)
 
-answer-checked : (xs before : List ℕ) → longestListing ≤ length before → readAnswer xs before ≡ answerTo (checks xs) xs
+answer-checked : (xs before : List ℕ) → longestListing ≤ length before → readAnswer xs before ≡ readFor (checks xs) xs
 unfolding readAnswer
 answer-checked xs before h = simp (le-ltb _ _ h)
 
@@ -42,10 +51,10 @@ pub says-short : (xs before : List ℕ) → length before < longestListing → R
 says-short xs before h = says xs before (sym (answer-short xs before h))
 
 pub says-refused : (xs before : List ℕ) {f : Refusal} → longestListing ≤ length before → checks xs ≡ Fault f → ReadSays xs before (Refused f) before
-says-refused xs before h e = says xs before (sym (answer-checked xs before h ∙ ap (λ (v : Checked). answerTo v xs) e))
+says-refused xs before h e = says xs before (sym (answer-checked xs before h ∙ ap (λ (v : Checked). readFor v xs) e))
 
 pub says-listed : (xs before : List ℕ) → longestListing ≤ length before → checks xs ≡ Fine → let l = listing (listIn xs) in ReadSays xs before (Listed (kindIn xs) (minorIn xs) (length l)) (l ++ drop (length l) before)
-says-listed xs before h e = says xs before (sym (answer-checked xs before h ∙ ap (λ (v : Checked). answerTo v xs) e))
+says-listed xs before h e = says xs before (sym (answer-checked xs before h ∙ ap (λ (v : Checked). readFor v xs) e))
 
 -- two results that keep the promise are one
 pub says-once : {xs before : List ℕ} {a b : Read} {p q : List ℕ} → ReadSays xs before a p → ReadSays xs before b q → (a ≡ b) × (p ≡ q)
@@ -69,7 +78,7 @@ listed-facts xs before {k} {m} {n} e =
     let both = go (ltb (length before) longestListing) (checks xs) e in
     (ltb-false _ _ (both .0), both .1)
   where
-    go : (t : Bool) (v : Checked) → cond t (Refused ShortBuffer) (answerTo v xs) ≡ Listed k m n → (t ≡ false) × (v ≡ Fine)
+    go : (t : Bool) (v : Checked) → readFor (check t ShortBuffer v) xs ≡ Listed k m n → (t ≡ false) × (v ≡ Fine)
     go true v p = let z : _≡_ {A = ℕ} 0 1 = cc in absurd (omega arith)
     go false Fine p = (refl, refl)
     go false (Fault f) p = let z : _≡_ {A = ℕ} 0 1 = cc in absurd (omega arith)
@@ -158,7 +167,7 @@ refused-says {xs} {before} {after} {f} s = (
   s .leaves ∙ ap (λ (r : Read). leftBy r xs before) (sym (s .answers)),
 )
   where
-    go : (t : Bool) (v : Checked) → ((g : Refusal) → v ≡ Fault g → T (among chunkNumbers (numberOf g))) → cond t (Refused ShortBuffer) (answerTo v xs) ≡ Refused f → T (among (1 ∷ chunkNumbers) (numberOf f))
+    go : (t : Bool) (v : Checked) → ((g : Refusal) → v ≡ Fault g → T (among chunkNumbers (numberOf g))) → readFor (check t ShortBuffer v) xs ≡ Refused f → T (among (1 ∷ chunkNumbers) (numberOf f))
     go true v a p = let same : ShortBuffer ≡ f = cc in subst (λ (x : Refusal). T (among (1 ∷ chunkNumbers) (numberOf x))) same tt
     go false Fine a p = let z : _≡_ {A = ℕ} 0 1 = cc in absurd (omega arith)
     go false (Fault g) a p = let same : g ≡ f = cc in among-more 1 chunkNumbers (numberOf f) (a f (ap Fault same))

@@ -5,6 +5,8 @@ use mathlib.Core.List.{List, [], _∷_}
 use lib.Dec.{eqb}
 use Rattle.meaning.specs.declared.Refusal.{Refusal}
 use Rattle.meaning.specs.declared.Refusal.the-variants.{ShortBuffer, SegmentLength, SegmentType, ErrorBit, OtherMajor, NumberAboveLast, Clash, TooLong, EndsEarly, KindDiffers, OtherVersion, BadDesk, BadListing, TooMany, BadLog}
+use Rattle.meaning.specs.declared.Checked.{Checked}
+use Rattle.meaning.specs.declared.Checked.the-variants.{Fine, Fault}
 use Rattle.meaning.specs.declared.Read.{Read}
 use Rattle.meaning.specs.declared.Read.the-variants.{Listed, Refused}
 
@@ -38,6 +40,11 @@ readMinor (Refused f) = 0
 abbrev pub readLength : Read → ℕ
 readLength (Listed k m n) = n
 readLength (Refused f) = 0
+
+-- and whether it is a refusal, as checks say it
+abbrev pub readFault : Read → Checked
+readFault (Listed k m n) = Fine
+readFault (Refused f) = Fault f
 
 -- whether n is one of some numbers
 abbrev pub among : List ℕ → ℕ → Bool

@@ -72,6 +72,11 @@ past e s ys = drop (servicesRoom e s ys) (inside e ys)
 abbrev pub check : Bool → Refusal → Checked → Checked
 check broken f rest = cond broken (Fault f) rest
 
+-- some checks, and then others
+abbrev pub andThen : Checked → Checked → Checked
+andThen (Fault f) rest = Fault f
+andThen Fine rest = rest
+
 -- n ensembles at the start of ys
 unfoldable pub ensemblesChecks : ℕ → ℕ → ℕ → List ℕ → Checked
 ensemblesChecks e s zero ys = Fine
@@ -129,14 +134,17 @@ pub record Accepts (xs : List ℕ) (k : Kind) (m : ℕ) (l : FicList) : Type 0 w
 
 -- ---- the public call, on a chunk xs and a lent buffer
 
-abbrev pub answerTo : Checked → List ℕ → Read
-answerTo Fine xs = Listed (kindIn xs) (minorIn xs) (length (listing (listIn xs)))
-answerTo (Fault f) xs = Refused f
+abbrev pub readChecks : List ℕ → List ℕ → Checked
+readChecks xs buffer =
+    check (ltb (length buffer) longestListing) ShortBuffer  -- 1
+    (checks xs)
+
+abbrev pub readFor : Checked → List ℕ → Read
+readFor Fine xs = Listed (kindIn xs) (minorIn xs) (length (listing (listIn xs)))
+readFor (Fault f) xs = Refused f
 
 unfoldable pub readAnswer : List ℕ → List ℕ → Read
-readAnswer xs buffer =
-    cond (ltb (length buffer) longestListing) (Refused ShortBuffer)  -- 1
-    (answerTo (checks xs) xs)
+readAnswer xs buffer = readFor (readChecks xs buffer) xs
 
 -- the listing at the start, bytes past it as they were; a refusal leaves all as it was
 abbrev pub leftBy : Read → List ℕ → List ℕ → List ℕ

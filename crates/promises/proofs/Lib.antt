@@ -1,4 +1,2 @@
-pub mod Reader
-pub mod Desk
-pub mod Log
-pub mod Writer
+pub mod Demands
+pub mod Sentences

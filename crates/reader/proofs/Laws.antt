@@ -45,9 +45,6 @@ module _ (xs : List ℕ) (at e s : ℕ) where
   pub inside-at : inside e (drop at xs) ≡ drop (at + (ensembleBytes + e)) xs
   inside-at = drop-drop (ensembleBytes + e) at xs
 
-  pub past-at : past e s (drop at xs) ≡ drop (at + (ensembleBytes + e) + getD xs (at + (3 + e)) 0 * (serviceBytes + s)) xs
-  past-at = ap₂ drop room-at inside-at ∙ drop-drop (getD xs (at + (3 + e)) 0 * (serviceBytes + s)) (at + (ensembleBytes + e)) xs
-
   pub none-there : (n : ℕ) → n ≤ 0 → ensemblesChecks e s n (drop at xs) ≡ Fine
   unfolding ensemblesChecks
   none-there zero z = refl

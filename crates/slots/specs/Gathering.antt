@@ -13,7 +13,7 @@ use Rattle.meaning.specs.declared.Checked.the-variants.{Fine, Fault}
 use Rattle.meaning.specs.Numbers.{numberOf}
 use Rattle.meaning.specs.Lists.{currentOf}
 use Rattle.meaning.specs.Listing.{listing}
-use Rattle.meaning.specs.Reading.{check, checks, listIn}
+use Rattle.meaning.specs.Reading.{check, andThen, checks, listIn}
 use Rattle.slots.specs.declared.Slot.{Slot}
 use Rattle.slots.specs.declared.Answer.{Answer}
 use Rattle.slots.specs.declared.Answer.the-variants.{Missing, Listed, Refused}
@@ -37,6 +37,12 @@ abbrev pub answerLength : Answer → ℕ
 answerLength (Missing n) = 0
 answerLength (Listed k n) = n
 answerLength (Refused f) = 0
+
+-- and whether it is a refusal, as checks say it
+abbrev pub answerFault : Answer → Checked
+answerFault (Missing n) = Fine
+answerFault (Listed k n) = Fine
+answerFault (Refused f) = Fault f
 
 -- ---- a slot, its bytes, and the buffer of its kind; an answer, and what is left
 
@@ -68,8 +74,7 @@ abbrev pub chunkIn : Side → List ℕ
 chunkIn s = take (payloadBytes * (s .slot .last + 1)) (s .bytes)
 
 abbrev pub kindChecks : Checked → Kind → List ℕ → Checked
-kindChecks (Fault f) k xs = Fault f
-kindChecks Fine k xs = check (not (eqb (getD xs 1 0 % 2) (currentOf k))) KindDiffers Fine  -- 10
+kindChecks v k xs = andThen v (check (not (eqb (getD xs 1 0 % 2) (currentOf k))) KindDiffers Fine)  -- 10
 
 -- a refused chunk changes no listing; the listing of any other goes to the start of the buffer, and bytes past it stay
 abbrev pub judged : Checked → Kind → Side → Outcome

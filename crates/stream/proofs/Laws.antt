@@ -66,6 +66,3 @@ module _ (s t : State) (xs out after : List ℕ) (read wrote : ℕ) (says : Fill
 
   pub filled-inside : wrote ≤ length after
   filled-inside = put-inside (filled (length out) s xs .text) out after wrote (says .1 .1) (filled-room (length out) s xs)
-
-  pub filled-long : length after ≡ length out
-  filled-long = ap length (says .1 .1 .1) ∙ length-sets out 0 (filled (length out) s xs .text)

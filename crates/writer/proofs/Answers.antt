@@ -22,7 +22,7 @@ use Rattle.segments.specs.Segment.{segmentBytes}
 use Rattle.segments.specs.Cut.{joined}
 use Rattle.writer.specs.declared.Written.{Written}
 use Rattle.writer.specs.declared.Written.the-variants.{Segments, Refused}
-use Rattle.writer.specs.Writing.{shortestOutput, writtenNumber, writtenCount, segmentsOf, writeChecks, writtenFor, writeAnswer, leftBy, writeOutput, WriteSays}
+use Rattle.writer.specs.Writing.{shortestOutput, writtenFault, writtenNumber, writtenCount, segmentsOf, writeChecks, writtenFor, writeAnswer, leftBy, writeOutput, WriteSays}
 
 -- ---- the checks, one after the other
 
@@ -75,6 +75,15 @@ module _ (xs : List ℕ) (k : Kind) (before : List ℕ) where
   pub says-written : writeChecks xs before ≡ Fine → let s = segmentsOf k (listSaid xs) in WriteSays xs k before (Segments (length s)) (joined s ++ drop (segmentBytes * length s) before)
   unfolding writeAnswer
   says-written e = says (sym (ap (λ (v : Checked). writtenFor v xs k) e))
+
+  -- a refusal is answered exactly as the checks say
+  pub answer-exactly : writtenFault (writeAnswer xs k before) ≡ writeChecks xs before
+  unfolding writeAnswer
+  answer-exactly = go (writeChecks xs before)
+    where
+      go : (v : Checked) → writtenFault (writtenFor v xs k) ≡ v
+      go Fine = refl
+      go (Fault f) = refl
 
   -- two results that keep the promise are one
   pub says-once : {a b : Written} {p q : List ℕ} → WriteSays xs k before a p → WriteSays xs k before b q → (a ≡ b) × (p ≡ q)

@@ -35,6 +35,11 @@ abbrev pub writtenCount : Written → ℕ
 writtenCount (Segments n) = n
 writtenCount (Refused f) = 0
 
+-- and whether it is a refusal, as checks say it
+abbrev pub writtenFault : Written → Checked
+writtenFault (Segments n) = Fine
+writtenFault (Refused f) = Fault f
+
 -- ---- the segments of a list
 
 -- what the writer chooses for a chunk of n bytes: reserved bits ones, stuffing FF

@@ -1,8 +1,6 @@
 -- `desk::fits` meets its contract, test by test. Assumes nothing.
 use mathlib.Core.Path.{sym, _∙_}
 use borrow.Author.Tests.{not-true, not-false}
-use denote.Ref.{now}
-use Rattle.desk.specs.Desks.{desk}
 use Rattle.desk.proofs.Laws.{unfit-shown, unfit-coming, unfit-this, fit-next}
 use borrow.Author.Needs.{needs}
 use Rattle.desk.proofs.fits.Statement.{statement}
@@ -12,25 +10,25 @@ length-fits-requires : tie.Need-length-fits-requires
 length-fits-requires c κs = search needs
 
 returns : tie.Need-returns
-returns c = unfit-shown (desk (c .before .before .before .before .args .marks) (now (c .before .before .before .before .args .this)) (now (c .before .before .before .before .args .next))) (sym (c .before .length-fits .ensures) ∙ not-true _ (c .if1 .taken))
+returns c = unfit-shown _ (sym (c .before .length-fits .ensures) ∙ not-true _ (c .if1 .taken))
 
 length-fits-requires-2 : tie.Need-length-fits-requires-2
 length-fits-requires-2 c κs = search needs
 
 returns-2 : tie.Need-returns-2
-returns-2 c = unfit-coming (desk (c .before .before .before .before .before .before .args .marks) (now (c .before .before .before .before .before .before .args .this)) (now (c .before .before .before .before .before .before .args .next))) (sym (c .before .before .before .length-fits .ensures) ∙ not-false _ (c .before .before .if1 .left)) (sym (c .before .length-fits2 .ensures) ∙ not-true _ (c .if2 .taken))
+returns-2 c = unfit-coming _ (sym (c .before .before .before .length-fits .ensures) ∙ not-false _ (c .before .before .if1 .left)) (sym (c .before .length-fits2 .ensures) ∙ not-true _ (c .if2 .taken))
 
 slot-fits-requires : tie.Need-slot-fits-requires
 slot-fits-requires c κs = search needs
 
 returns-3 : tie.Need-returns-3
-returns-3 c = unfit-this (desk (c .before .before .before .before .before .before .before .before .args .marks) (now (c .before .before .before .before .before .before .before .before .args .this)) (now (c .before .before .before .before .before .before .before .before .args .next))) (sym (c .before .before .before .before .before .length-fits .ensures) ∙ not-false _ (c .before .before .before .before .if1 .left)) (sym (c .before .before .before .length-fits2 .ensures) ∙ not-false _ (c .before .before .if2 .left)) (sym (c .before .slot-fits .ensures) ∙ not-true _ (c .if3 .taken))
+returns-3 c = unfit-this _ (sym (c .before .before .before .before .before .length-fits .ensures) ∙ not-false _ (c .before .before .before .before .if1 .left)) (sym (c .before .before .before .length-fits2 .ensures) ∙ not-false _ (c .before .before .if2 .left)) (sym (c .before .slot-fits .ensures) ∙ not-true _ (c .if3 .taken))
 
 slot-fits-requires-2 : tie.Need-slot-fits-requires-2
 slot-fits-requires-2 c κs = search needs
 
 returns-4 : tie.Need-returns-4
-returns-4 c = c .slot-fits2 .ensures ∙ fit-next (desk (c .before .before .before .before .before .before .before .before .before .args .marks) (now (c .before .before .before .before .before .before .before .before .before .args .this)) (now (c .before .before .before .before .before .before .before .before .before .args .next))) (sym (c .before .before .before .before .before .before .length-fits .ensures) ∙ not-false _ (c .before .before .before .before .before .if1 .left)) (sym (c .before .before .before .before .length-fits2 .ensures) ∙ not-false _ (c .before .before .before .if2 .left)) (sym (c .before .before .slot-fits .ensures) ∙ not-false _ (c .before .if3 .left))
+returns-4 c = c .slot-fits2 .ensures ∙ fit-next _ (sym (c .before .before .before .before .before .before .length-fits .ensures) ∙ not-false _ (c .before .before .before .before .before .if1 .left)) (sym (c .before .before .before .before .length-fits2 .ensures) ∙ not-false _ (c .before .before .before .if2 .left)) (sym (c .before .before .slot-fits .ensures) ∙ not-false _ (c .before .if3 .left))
 
 pub fits-spec : {M : Type 1} → statement M
 fits-spec =

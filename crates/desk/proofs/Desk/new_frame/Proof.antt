@@ -13,7 +13,7 @@ fresh-requires : tie.Need-fresh-requires
 fresh-requires c κs = search needs
 
 returns : tie.Need-returns
-returns c = c .fresh .ensures ∙ frame-unfit (c .before .before .before .args .self) (sym (c .before .before .well-formed .ensures) ∙ not-true _ (c .before .if1 .taken))
+returns c = c .fresh .ensures ∙ frame-unfit _ (sym (c .before .before .well-formed .ensures) ∙ not-true _ (c .before .if1 .taken))
 
 frame-requires : tie.Need-frame-requires
 frame-requires c κs = search needs
@@ -22,7 +22,7 @@ bare-requires : tie.Need-bare-requires
 bare-requires c κs = search needs
 
 returns-2 : tie.Need-returns-2
-returns-2 c = c .bare .ensures ∙ frame-fit (c .before .before .before .before .before .args .self) _ (sym (c .before .before .before .before .well-formed .ensures) ∙ not-false _ (c .before .before .before .if1 .left)) (c .before .frame .ensures)
+returns-2 c = c .bare .ensures ∙ frame-fit _ _ (sym (c .before .before .before .before .well-formed .ensures) ∙ not-false _ (c .before .before .before .if1 .left)) (c .before .frame .ensures)
 
 pub new-frame-spec : {M : Type 1} → statement M
 new-frame-spec =

@@ -1,7 +1,6 @@
 -- `desk::Desk::segment` meets its contract: 12, or what `drive` gives. Assumes nothing.
 use mathlib.Core.Path.{sym, _∙_}
 use borrow.Author.Tests.{not-true, not-false}
-use denote.Ref.{now}
 use Rattle.desk.proofs.Laws.{taken-unfit}
 use borrow.Author.Needs.{needs}
 use Rattle.desk.proofs.Desk.segment.Statement.{statement}
@@ -11,7 +10,7 @@ well-formed-requires : tie.Need-well-formed-requires
 well-formed-requires c κs = search needs
 
 returns : tie.Need-returns
-returns c = taken-unfit (c .before .before .before .before .before .args .self) (now (c .before .before .before .before .before .args .seg)) (now (c .before .before .before .before .before .args .first)) (now (c .before .before .before .before .before .args .second)) (sym (c .before .well-formed .ensures) ∙ not-true _ (c .if1 .taken))
+returns c = taken-unfit _ _ _ _ (sym (c .before .well-formed .ensures) ∙ not-true _ (c .if1 .taken))
 
 drive-requires : tie.Need-drive-requires
 drive-requires c κs = sym (c .before .before .before .before .before .before .before .before .well-formed .ensures) ∙ not-false _ (c .before .before .before .before .before .before .before .if1 .left)

@@ -14,7 +14,7 @@ part-requires : tie.Need-part-requires
 part-requires c κs = omega (arith, c .shown-length .ensures, shown-fits (c .before .before .before .before .args .kind) (c .before .before .before .before .args .self) (now (c .before .before .before .before .args .first)) (now (c .before .before .before .before .args .second)))
 
 returns : tie.Need-returns
-returns c = (shown-is (c .before .before .before .before .before .args .kind) (c .before .before .before .before .before .args .self) (now (c .before .before .before .before .before .args .first)) (now (c .before .before .before .before .before .args .second)) _ _ (c .before .shown-length .ensures) (c .part .ensures .0), c .part .ensures .1)
+returns c = (shown-is _ _ _ _ _ _ (c .before .shown-length .ensures) (c .part .ensures .0), c .part .ensures .1)
 
 pub show-spec : {M : Type 1} → statement M
 show-spec = tie.close (tie.spec shown-length-requires part-requires returns)

@@ -1,0 +1,87 @@
+-- A desk that keeps the first piece of a chunk and only claims the later ones does not meet demand 3: two pieces tell. Assumes nothing.
+use mathlib.Core.Path.{_≡_, refl, ap}
+use mathlib.Core.List.{List, [], _∷_, _++_, flatMap, map}
+use Prim.Native.Nat.{ℕ, zero, suc, _≤_, _<_}
+use native.Mathlib.Omega.{arith}
+use lib.Dec.{T}
+use lib.ListN.{length, getD, drop, replicate}
+use lib.Count.{ones, onesIn}
+use Rattle.octets.specs.Bits.{bits, laid, number, octets, bytesOf}
+use Rattle.octets.specs.Each.{Each}
+use Rattle.meaning.specs.declared.Kind.the-variants.{This}
+use Rattle.meaning.specs.Numbers.{among}
+use Rattle.meaning.specs.Sizes.{longestListing}
+use Rattle.meaning.specs.Lists.{Service, FicList}
+use Rattle.meaning.specs.Layout.{serviceFields, ensembleFields, chunkFields, wire, Carries}
+use Rattle.meaning.specs.Listing.{listing, ensembleListing}
+use Rattle.meaning.specs.Plain.{plain}
+use Rattle.meaning.specs.Reading.{checks, ensemblesChecks, listIn, ensemblesAt, servicesAt}
+use Rattle.octets.proofs.Laws.{bytes-bytesOf}
+use Rattle.meaning.proofs.Sound.{accepted-carried}
+use Rattle.segments.specs.Segment.{headFields, segment, segmentChecks}
+use Rattle.segments.specs.Cut.{segmentsFor, pieceOf}
+use Rattle.writer.specs.Writing.{plainly}
+use Rattle.writer.proofs.Sent.{plainly-suits}
+use Rattle.slots.specs.Slots.{zeros, slotFits, clashing}
+use Rattle.slots.specs.Gathering.{gathered, completed}
+use Rattle.desk.specs.Desks.{fresh, wellFormed, takenBy, segmentAfter}
+use Rattle.gatherings.specs.Deliveries.{Told, deliveredBy}
+use Rattle.gatherings.specs.Once.{Delivery, piece, callFor, Allowed, numbersOf, ListsAll, keepsFirst}
+use Rattle.gatherings.proofs.Starts.{fresh-start}
+
+-- one ensemble with nine services: 36 bytes, so the last byte of the last service is alone in the second piece
+service : Service
+service = record { id = 0x0A01; multi = 0; status = 3; sp = 0 }
+
+list : FicList
+list =
+    record { stream = 0x0123; ensembles = record { id = 5; slt = 1; gat = 0; eat = 0; channel = 3; services = replicate 9 service } ∷ [] }
+
+chunk : List ℕ
+chunk = wire (plain This list)
+
+abbrev fill : List ℕ
+fill = plainly (length chunk) .fill
+
+deliveries : List Delivery
+deliveries = piece 0 1 1 longestListing longestListing ∷ piece 1 1 1 longestListing longestListing ∷ []
+
+memory : List ℕ
+memory = zeros longestListing
+
+told : Told
+told = deliveredBy keepsFirst fresh (map (callFor chunk fill) deliveries) memory memory
+
+-- the last service's status is 0 there, and 3 in the list
+status-lost : getD (told .first) 72 0 ≡ 0
+unfolding told memory deliveries chunk list service deliveredBy keepsFirst pieceOf segment headFields wire chunkFields ensembleFields serviceFields bytesOf octets number laid bits flatMap segmentAfter takenBy wellFormed slotFits clashing gathered completed segmentChecks checks ensemblesChecks listIn ensemblesAt servicesAt listing ensembleListing ones onesIn
+status-lost = refl
+
+status-sent : (rest : List ℕ) → getD (listing list ++ rest) 72 0 ≡ 3
+unfolding list service listing ensembleListing flatMap
+status-sent rest = refl
+
+carried : Carries chunk This 0 list
+unfolding chunk list service wire chunkFields ensembleFields serviceFields bytesOf octets number laid bits flatMap checks ensemblesChecks listIn ensemblesAt servicesAt
+carried = accepted-carried (bytes-bytesOf (chunkFields (plain This list))) (record { passes = refl; kind = refl; minor = refl; list = refl })
+
+long : longestListing ≤ length memory
+unfolding memory
+long = omega arith
+
+every : (i : ℕ) → i < segmentsFor (length chunk) → T (among (numbersOf deliveries) i)
+unfolding deliveries chunk list service wire chunkFields ensembleFields serviceFields bytesOf octets number laid bits flatMap
+every zero l = tt
+every (suc zero) l = tt
+every (suc (suc i)) l = absurd (omega arith)
+
+allowed : Each (Allowed (segmentsFor (length chunk)) This) deliveries
+unfolding deliveries chunk list service wire chunkFields ensembleFields serviceFields bytesOf octets number laid bits flatMap
+allowed = omega arith
+
+pub first-not-enough : ListsAll keepsFirst → ⊥
+unfolding told
+first-not-enough all =
+    let c = all chunk This 0 list carried fill (plainly-suits chunk .bytes) (plainly-suits chunk .whole) deliveries allowed every fresh fresh-start memory memory long long in
+    let same : getD (told .first) 72 0 ≡ getD (listing list ++ drop (length (listing list)) memory) 72 0 = ap (λ (xs : List ℕ). getD xs 72 0) (c .own) in
+    omega (arith, status-lost, status-sent (drop (length (listing list)) memory))
