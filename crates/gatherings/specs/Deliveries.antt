@@ -1,12 +1,11 @@
 -- Segment calls one after the other in one gathering, and the segments that stand in a writer's output.
-use Prim.Native.Nat.{ℕ, zero, suc, _+_, _-_}
+use Prim.Native.Nat.{ℕ, zero, suc}
 use mathlib.Core.Path.{_≡_}
 use mathlib.Core.Bool.{Bool}
 use mathlib.Core.List.{List, [], _∷_, _++_, flatMap}
 use lib.ListN.{length, take, drop}
 use Rattle.meaning.specs.declared.Kind.{Kind}
 use Rattle.meaning.specs.Numbers.{readLength}
-use Rattle.meaning.specs.Listing.{listing}
 use Rattle.meaning.specs.Reading.{readAnswer, readBuffer}
 use Rattle.segments.specs.Segment.{segmentBytes, payloadIn}
 use Rattle.slots.specs.declared.Answer.{Answer}

@@ -1,7 +1,6 @@
 // The log program's lines: the next record of a log, and what is printed for it. `fill` goes through a block of a log.
 use desk::Marks;
 use meaning::Kind;
-use meaning::LONGEST_CHUNK;
 use meaning::LONGEST_LISTING;
 use meaning::MARK;
 use meaning::Refusal;
@@ -128,7 +127,8 @@ fn glyph(n: u8) -> u8
     requires { ⌜ n < 16 ⌝ }
     ensures { λ r. ⌜ r ≡ Text·glyph n ⌝ }
 {
-    if n < 10 { 48 + n } else { 87 + n }
+    let letter = if n < 10 { 0 } else { 39 };
+    48 + n + letter
 }
 
 fn put_hex(bytes: &[u8], out: &mut [u8], to: usize) -> usize
@@ -222,8 +222,10 @@ fn frame<'a>(
     ensures { λ r. ⌜ Desks·desk (r .marks) (now (this .exit)) (now (next .exit)) ≡ newFrame (Desks·desk marks (now (this .entry)) (now (next .entry))) ⌝ }
     ensures { λ r. ⌜ Put (frameLines (shown Kind.This (Desks·desk (r .marks) (now (this .exit)) (now (next .exit))) (now (first .entry)) (now (second .entry)))) (now (out .entry)) to (now (out .exit)) (r .to) ⌝ }
 {
-    *this = [0u8; LONGEST_CHUNK];
-    *next = [0u8; LONGEST_CHUNK];
+    let mine = marks.this;
+    let other = marks.next;
+    slots::clear(mine, this);
+    slots::clear(other, next);
     let after = marks.frame();
     let listing = desk::part(Kind::This, after.swapped, after.shown, first, second);
     let end = put_frame(listing, out, to);
@@ -245,8 +247,10 @@ fn gathering(
     ensures { λ r. ⌜ Desks·desk (r .marks) (now (this .exit)) (now (next .exit)) ≡ newGathering (Desks·desk marks (now (this .entry)) (now (next .entry))) ⌝ }
     ensures { λ r. ⌜ Put (textGA ++ newline) (now (out .entry)) to (now (out .exit)) (r .to) ⌝ }
 {
-    *this = [0u8; LONGEST_CHUNK];
-    *next = [0u8; LONGEST_CHUNK];
+    let mine = marks.this;
+    let other = marks.next;
+    slots::clear(mine, this);
+    slots::clear(other, next);
     let end = put_text(b"GA\n", out, to);
     Turned {
         marks: marks.gathering(),

@@ -3,7 +3,7 @@ use mathlib.Core.Path.{_≡_}
 use mathlib.Core.Bool.{true, false}
 use mathlib.Core.List.{List, [], _++_, flatMap}
 use mathlib.Core.Logic.{_⊎_}
-use Prim.Native.Nat.{ℕ, _+_, _*_, _≤_, _<_, _^_, _-_}
+use Prim.Native.Nat.{ℕ, _+_, _-_, _*_, _/_, _%_, _^_, _≤_, _<_}
 use lib.ListN.{length, drop}
 use lib.Count.{ones}
 use Rattle.octets.specs.Bits.{Bytes, Held}
@@ -15,7 +15,8 @@ use Rattle.meaning.specs.Sizes.{longestChunk, longestListing, tsBytes, enBytes,
 use Rattle.meaning.specs.Lists.{FicList, servicesOf, kindOf}
 use Rattle.meaning.specs.Layout.{Carries, wire}
 use Rattle.meaning.specs.Listing.{listing}
-use Rattle.meaning.specs.Reading.{checks, listIn, Accepts, readBuffer}
+use Rattle.meaning.specs.Numbers.{readNumber, readMinor, readLength}
+use Rattle.meaning.specs.Reading.{checks, listIn, Accepts, readAnswer, readBuffer}
 use Rattle.meaning.specs.Listed.{listingFits, listSaid}
 use Rattle.meaning.specs.Plain.{plain, Fits, plainLength}
 use Rattle.meaning.proofs.Complete.{carried-accepted}
@@ -30,7 +31,7 @@ use Rattle.segments.specs.Cut.{segmentsFor}
 use Rattle.segments.proofs.Heads.{head-read}
 use Rattle.segments.proofs.Cut.{segments-hold, segments-fewest}
 use Rattle.writer.specs.declared.Written.the-variants.{Segments}
-use Rattle.writer.specs.Writing.{shortestOutput, segmentsOf, writeAnswer}
+use Rattle.writer.specs.Writing.{shortestOutput, segmentsOf, writtenNumber, writtenCount, writeAnswer}
 use Rattle.typed.specs.Typed.{hexFits, hexSaid, logOf}
 use Rattle.slots.specs.declared.Answer.the-variants.{Missing, Refused}
 use Rattle.slots.specs.Slots.{holds, spoiledSlot, missingIn, clashing}
@@ -47,6 +48,8 @@ use Rattle.lines.specs.Log.{state, printed, State, entryIn, wholeRecord, record
 use Rattle.lines.proofs.Log.{entry-more, transcript-any, printed-record, printed-last, filled-printed, filled-stops, filled-room, filled-ready}
 use Rattle.lines.proofs.Samples.{sampleLog, sampleText, start, sample-printed}
 use Rattle.gatherings.specs.Deliveries.{AtStart, countdown}
+use Rattle.lukasembo.specs.Told.{readKind, readTold, writeTold}
+use Rattle.lukasembo.proofs.Laws.{read-parts, write-parts}
 use Rattle.gatherings.proofs.Printed.{written-printed, hex-typed}
 use Rattle.gatherings.proofs.Rounds.{carried-short, written-so-many}
 
@@ -186,6 +189,13 @@ log-after-write = written-printed
 
 pub digits-typed : (xs : List ℕ) → Bytes xs → (hexFits (length xs) (hex xs) ≡ true) × (hexSaid (length xs) (hex xs) ≡ xs)
 digits-typed = hex-typed
+
+-- for programs in C the answer is one number, and the header's functions get its parts back
+pub parts-of-a-reading : (xs buffer : List ℕ) → let a = readAnswer xs buffer in let r = readTold a in (r % 0x100 ≡ readNumber a) × (r / 0x100 % 2 ≡ readKind a) × (r / 0x200 % 8 ≡ readMinor a) × (r / 0x10000 ≡ readLength a)
+parts-of-a-reading = read-parts
+
+pub parts-of-a-writing : (xs : List ℕ) (k : Kind) (output : List ℕ) → let a = writeAnswer xs k output in let r = writeTold a in (r % 0x100 ≡ writtenNumber a) × (r / 0x10000 ≡ writtenCount a)
+parts-of-a-writing = write-parts
 
 -- ---- the log. `printed s log` is the whole transcript of a log from the state s: a desk and two buffers. The library's `fill` gives, of one block
 -- of a log, as much as the output takes (`filled`), and `finish` the last line. The program moves bytes between these and its descriptors.

@@ -8,7 +8,7 @@ use native.Mathlib.Omega.{arith}
 use borrow.Author.Tests.{ltb-true, ltb-false, lt-ltb, eq-eqb, ne-eqb, eqb-true, eqb-false, not-false}
 use lib.Dec.{eqb, ltb}
 use lib.ListN.{length, take, drop, set, length-drop}
-use lib.Seq.{sets, length-sets, sets-eq, take-nil, take-at, drop-at, length-take-le, take-set-le, drop-set-lt}
+use lib.Seq.{sets, length-sets, sets-eq, take-nil, take-all, take-at, drop-at, length-take-le, take-set-le, drop-set-lt}
 use lib.Pow.{pow-pos}
 use Rattle.meaning.specs.declared.Kind.{Kind}
 use Rattle.meaning.specs.declared.Refusal.the-variants.{SegmentLength, SegmentType, ErrorBit, OtherMajor, NumberAboveLast}
@@ -21,9 +21,10 @@ use Rattle.octets.specs.Same.{same}
 use Rattle.segments.specs.Segment.{segmentBytes, headBytes, payloadBytes, mostSegments, placeOf, segmentChecks, sortIn, errorIn, segmentMajor, numberIn, lastIn, payloadIn}
 use Rattle.slots.specs.Slots.{zeros, allBelow, holds, including, emptySlot, spoiledSlot, noBytes, missingIn, numbersFit, bytesFit, slotFits, clashing, holding}
 use Rattle.slots.specs.Gathering.{Side, hold, chunkIn, kindChecks, judged, completed, placed, gathered}
-use Rattle.octets.proofs.Laws.{either}
+use Rattle.octets.proofs.Laws.{either, same-eq}
 use Rattle.meaning.proofs.Checks.{check-passed}
-use Rattle.slots.proofs.Bits.{holds-including, holds-other, including-small}
+use Rattle.segments.proofs.Places.{take-places}
+use Rattle.slots.proofs.Bits.{holds-none, holds-including, holds-other, including-small}
 
 -- ---- tests below a number
 
@@ -131,6 +132,17 @@ held-small xs s bytes e c =
 -- whether the place i is held or all zeros
 abbrev pub clean : ℕ → List ℕ → ℕ → Bool
 clean held bytes i = holds held i || same (placeOf bytes i) (zeros payloadBytes)
+
+place-zeros : (held : ℕ) (bytes : List ℕ) (i : ℕ) → i < mostSegments → held ≡ 0 → bytesFit held bytes ≡ true → placeOf bytes i ≡ zeros payloadBytes
+place-zeros held bytes i l z e =
+    same-eq (placeOf bytes i) (zeros payloadBytes) (simp (ap (λ (h : ℕ). holds h i) z ∙ holds-none i) at (below-all mostSegments (clean held bytes) e i l))
+
+-- a slot that holds nothing has zeros only
+pub none-held : (s : Slot) (bytes : List ℕ) → slotFits s bytes ≡ true → s .held ≡ 0 → bytes ≡ noBytes
+none-held s bytes e z =
+    let w = slot-parts s bytes e in
+    sym (take-all longestChunk bytes (omega arith))
+    ∙ take-places mostSegments bytes noBytes (λ i l. place-zeros (s .held) bytes i l z (w .2) ∙ sym (place-zeros 0 noBytes i l refl (slot-parts emptySlot noBytes empty-fits .2)))
 
 place-fits : (held : ℕ) (bytes vs : List ℕ) (n i : ℕ) → holds held n ≡ false → length vs ≡ payloadBytes → payloadBytes * n + payloadBytes ≤ length bytes → clean held bytes i ≡ true → clean (including held n) (sets bytes (payloadBytes * n) vs) i ≡ true
 place-fits held bytes vs n i f e l h =

@@ -16,7 +16,7 @@ ghost use lib.Count.{ones as Count·ones};
 ghost use Rattle.meaning.specs.Sizes.{longestListing, longestChunk};
 ghost use Rattle.segments.specs.Segment.{segmentBytes, payloadBytes, mostSegments, segmentChecks, payloadIn};
 ghost use Rattle.octets.specs.Same.{same as Same·same};
-ghost use Rattle.slots.specs.Slots.{holds as Slots·holds, missingIn, numbersFit, bytesFit, slotFits, clashing};
+ghost use Rattle.slots.specs.Slots.{noBytes, holds as Slots·holds, missingIn, numbersFit, bytesFit, slotFits, clashing};
 ghost use Rattle.slots.specs.Gathering.{side, outcome, gathered, completed};
 ghost use Rattle.slots.specs.Words.{eight};
 
@@ -125,6 +125,16 @@ fn store(bytes: &mut [u8], at: usize, seg: &[u8])
 }
 
 // ---- slots
+
+// Clears the bytes of a slot; one that holds nothing has none. Internal.
+pub fn clear(slot: Slot, bytes: &mut [u8; 560])
+    requires { ⌜ slotFits slot (now bytes) ≡ true ⌝ }
+    ensures { λ _. ⌜ now (bytes .exit) ≡ noBytes ⌝ }
+{
+    if slot.held != 0 {
+        *bytes = [0u8; LONGEST_CHUNK];
+    }
+}
 
 // Whether every place that is not held is all zeros.
 fn bytes_fit(held: u16, bytes: &[u8; 560]) -> bool

@@ -1,4 +1,6 @@
 -- `lines::glyph` meets its contract: its test is the definition's. Assumes nothing.
+use mathlib.Core.Logic.{⊎-elim}
+use native.Mathlib.Omega.{arith}
 use borrow.Author.Needs.{needs}
 use borrow.Author.Tests.{lt-ltb, le-ltb}
 use Rattle.lines.proofs.glyph.Statement.{statement}
@@ -8,13 +10,12 @@ add-result : tie.Need-add-result
 add-result c = search needs
 
 add-result-2 : tie.Need-add-result-2
-add-result-2 c = search needs
+add-result-2 c = ⊎-elim (λ w. record { fits = omega (arith, w .1) }) (λ w. record { fits = omega (arith, w .1) }) (c .before .if1 .came)
 
 returns : tie.Need-returns
-returns c = rw (lt-ltb (c .before .args .n) 10 (c .if1 .taken))
-
-returns-2 : tie.Need-returns-2
-returns-2 c = rw (le-ltb (c .before .args .n) 10 (c .if1 .left))
+returns c =
+    let n = c .before .before .args .n in
+    ⊎-elim (λ w. rw (lt-ltb n 10 (w .0 .taken)) (omega (arith, w .1))) (λ w. rw (le-ltb n 10 (w .0 .left)) (omega (arith, w .1))) (c .before .if1 .came)
 
 pub glyph-spec : {M : Type 1} → statement M
-glyph-spec = tie.close (tie.spec add-result add-result-2 returns returns-2)
+glyph-spec = tie.close (tie.spec add-result add-result-2 returns)

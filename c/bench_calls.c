@@ -1,0 +1,186 @@
+/* Nanoseconds for one call of the reader or the writer.
+   bench_calls ours|plain CASE ROUNDS
+   Compiled with -DOURS for the one, without for the other; all else is the same. */
+#define _POSIX_C_SOURCE 199309L
+
+#include "make.h"
+
+#include <stdio.h>
+#include <stdlib.h>
+#include <string.h>
+#include <time.h>
+
+enum { LISTING = 1292, OUTPUT = 592, ITEMS = 1000 };
+
+/* The length of the listing, or the number of segments; 0 where refused. */
+#ifdef OURS
+#include "lukasembo.h"
+#define WHO "ours"
+
+static inline uint64_t read_one(const uint8_t *chunk, size_t n, uint8_t *buffer)
+{
+    const uint64_t a = lukasembo_read(chunk, n, buffer, LISTING);
+
+    return lukasembo_number(a) == LUKASEMBO_ACCEPTED ? lukasembo_length(a) : 0;
+}
+
+static inline uint64_t write_one(const uint8_t *listing, size_t n, uint8_t kind, uint8_t *output)
+{
+    const uint64_t a = lukasembo_write(listing, n, kind, output, OUTPUT);
+
+    return lukasembo_number(a) == LUKASEMBO_ACCEPTED ? lukasembo_segments(a) : 0;
+}
+#else
+#include "plain.h"
+#define WHO "plain"
+
+static inline uint64_t read_one(const uint8_t *chunk, size_t n, uint8_t *buffer)
+{
+    const struct plain_read a = plain_read(chunk, n, buffer, LISTING);
+
+    return a.number == 0 ? a.length : 0;
+}
+
+static inline uint64_t write_one(const uint8_t *listing, size_t n, uint8_t kind, uint8_t *output)
+{
+    const struct plain_write a = plain_write(listing, n, kind, output, OUTPUT);
+
+    return a.number == 0 ? a.segments : 0;
+}
+#endif
+
+struct item {
+    const uint8_t *bytes;
+    size_t n;
+    uint8_t kind;
+};
+
+static struct item items[ITEMS];
+static size_t count;
+static uint8_t store[ITEMS * LISTING], buffer[LISTING];
+static volatile uint64_t sink;
+
+static void add(const uint8_t *bytes, size_t n, unsigned kind)
+{
+    uint8_t *to = store + count * LISTING;
+
+    memcpy(to, bytes, n);
+    items[count].bytes = to;
+    items[count].n = n;
+    items[count++].kind = (uint8_t)kind;
+}
+
+/* The inputs of a case; answers 0 for an unknown one. */
+static int make_items(const char *name, int *writer)
+{
+    static const uint8_t sample[] = {0x00, 0x03, 0x01, 0x23, 0x01, 0x05, 0xE0, 0x83, 0x01, 0x0A, 0x01, 0xE6};
+    static const uint8_t sample_listing[] = {0x54, 0x53, 0x01, 0x23, 0x01, 0x45, 0x4E, 0x05, 0x04,
+                                             0x03, 0x01, 0x53, 0x56, 0x0A, 0x01, 0x00, 0x03, 0x00};
+    static struct make_list list;
+    static struct made made;
+    struct make_shape shape = {0, 0, 0, 0, 1, 1};
+    struct rng rng = {1};
+    const char *size = strchr(name, '-');
+    unsigned i;
+
+    *writer = strncmp(name, "write-", 6) == 0;
+    if (size == NULL || (!*writer && strncmp(name, "read-", 5) != 0))
+        return 0;
+    size++;
+    if (strcmp(size, "short") == 0) {
+        if (*writer)
+            add(sample_listing, sizeof sample_listing, 1);
+        else
+            add(sample, sizeof sample, 1);
+        return 1;
+    }
+    if (strcmp(size, "longest") == 0) {
+        make_counts(&rng, &list, 1, 183);
+        if (*writer)
+            make_listing(&list, &made);
+        else
+            make_chunk(&rng, &list, &shape, &made);
+        add(made.bytes, made.n, 1);
+        return 1;
+    }
+    if (strcmp(size, "mixed") != 0)
+        return 0;
+    for (i = 0; i < ITEMS; i++) {
+        if (*writer)
+            shape.kind = i % 2;
+        else {
+            shape = make_shape(&rng);
+            shape.minor = i % 8;
+        }
+        make_list(&rng, &list, &shape, MAKE_CHUNK);
+        if (*writer)
+            make_listing(&list, &made);
+        else {
+            make_chunk(&rng, &list, &shape, &made);
+            make_stuffing(&rng, &made, (made.n + MAKE_PAYLOAD - 1) / MAKE_PAYLOAD * MAKE_PAYLOAD);
+        }
+        add(made.bytes, made.n, shape.kind);
+    }
+    return 1;
+}
+
+static uint64_t run_reader(unsigned long rounds)
+{
+    uint64_t sum = 0;
+    size_t at = 0;
+
+    for (; rounds > 0; rounds--) {
+        const struct item *item = &items[at];
+        const uint64_t length = read_one(item->bytes, item->n, buffer);
+
+        sink = length;
+        sum += length + buffer[length - 1];
+        if (++at == count)
+            at = 0;
+    }
+    return sum;
+}
+
+static uint64_t run_writer(unsigned long rounds)
+{
+    uint64_t sum = 0;
+    size_t at = 0;
+
+    for (; rounds > 0; rounds--) {
+        const struct item *item = &items[at];
+        const uint64_t segments = write_one(item->bytes, item->n, item->kind, buffer);
+
+        sink = segments;
+        sum += segments + buffer[MAKE_SEGMENT * segments - MAKE_PAYLOAD];
+        if (++at == count)
+            at = 0;
+    }
+    return sum;
+}
+
+int main(int argc, char **argv)
+{
+    struct timespec from, to;
+    unsigned long rounds = argc == 4 ? strtoul(argv[3], NULL, 10) : 0;
+    uint64_t sum;
+    size_t i;
+    int writer;
+    double ns;
+
+    if (rounds == 0 || strcmp(argv[1], WHO) != 0 || !make_items(argv[2], &writer)) {
+        fprintf(stderr, "usage: bench_calls " WHO " read-short|read-longest|read-mixed|write-short|write-longest|write-mixed ROUNDS\n");
+        return 2;
+    }
+    for (i = 0; i < count; i++) /* none is refused */
+        if ((writer ? write_one(items[i].bytes, items[i].n, items[i].kind, buffer)
+                    : read_one(items[i].bytes, items[i].n, buffer)) == 0) {
+            fprintf(stderr, "bench_calls: an input is refused\n");
+            return 1;
+        }
+    clock_gettime(CLOCK_MONOTONIC, &from);
+    sum = writer ? run_writer(rounds) : run_reader(rounds);
+    clock_gettime(CLOCK_MONOTONIC, &to);
+    ns = (double)(to.tv_sec - from.tv_sec) * 1e9 + (double)(to.tv_nsec - from.tv_nsec);
+    printf("%s %s %lu calls %.2f ns each (sum %llu)\n", WHO, argv[2], rounds, ns / (double)rounds, (unsigned long long)sum);
+    return 0;
+}

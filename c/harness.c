@@ -1,0 +1,904 @@
+/* Gives the same inputs to both implementations and compares every answer and every byte.
+   harness [--seed N] [--calls M] [--plant ours|plain] [--replay FILE] */
+#define _DEFAULT_SOURCE
+
+#include "lukasembo.h"
+#include "make.h"
+#include "plain.h"
+
+#include <signal.h>
+#include <stdio.h>
+#include <stdlib.h>
+#include <string.h>
+#include <sys/mman.h>
+#include <unistd.h>
+
+enum { OURS, PLAIN, SIDES };
+enum { INPUT, BUFFER, MEMORIES };
+enum { MIDDLE, AT_START, AT_END, PLACES }; /* the latter two: right after, right before memory that can't be touched */
+enum {
+    GUARD = 64,             /* bytes watched on each side of a memory */
+    LONG = 65536,           /* lengths that 16 bits don't hold */
+    BUFFER_ROOM = LONG + 4096,
+    PATTERNS = LONG,        /* places in the pattern at which a buffer's may begin */
+    PLANT_EVERY = 100000,
+    NOWHERE = -GUARD - 1
+};
+
+/* The phases, the reader's first, and how many of 1,000 calls each has. */
+enum phase {
+    LENGTHS, HEADS, SOUND, DAMAGED, DAMAGED_MORE, TOO_LONG,
+    LISTINGS, LIMITS, BAD_LISTINGS, CUTS, KINDS, LONG_LISTINGS, BAD_LISTINGS_MORE, SAMPLES, PHASES
+};
+static const char *const phase_name[PHASES] = {
+    "lengths", "heads", "sound", "damaged", "damaged more", "too long",
+    "listings", "limits", "bad listings", "cuts", "kinds", "long listings", "bad listings more", "samples"
+};
+static const unsigned phase_share[PHASES] = {30, 220, 140, 120, 80, 10, 100, 60, 110, 40, 15, 0, 75, 0};
+
+struct call {
+    int phase;
+    int writer;      /* 0: the reader */
+    uint8_t kind;    /* for the writer */
+    uint8_t planted; /* 0, or 1 + the side whose result was made wrong */
+    uint8_t place[MEMORIES], shift[MEMORIES];
+    uint32_t pattern; /* where in the pattern the buffer's bytes begin */
+    size_t n, room;
+    const uint8_t *input;
+    const uint64_t *want;      /* the answer, if it is known */
+    const uint8_t *want_bytes; /* and what it writes */
+};
+
+/* A memory as lent to one side: its region, its start, and the watched bytes around it. */
+struct lent {
+    uint8_t *region, *at;
+    size_t before, after;
+};
+
+static struct rng rng;
+static struct make_list list;
+static struct made made;
+static uint8_t pattern[PATTERNS + BUFFER_ROOM + 2 * GUARD];
+static struct lent lent[SIDES][MEMORIES];
+static size_t region_size[MEMORIES];
+
+static uint64_t calls, limit, seen[2][256], next_plant;
+static int plant; /* 0, or 1 + the side */
+
+/* The call at work, for the report. */
+static struct call now;
+static uint64_t answer[SIDES];
+static volatile sig_atomic_t at_work = -1; /* which side */
+
+/* ---- The report ---- */
+
+static void print_hex(const uint8_t *from, size_t n)
+{
+    const size_t most = 4096;
+    size_t i;
+
+    for (i = 0; i < n && i < most; i++)
+        printf("%02x", from[i]);
+    if (n > most)
+        printf("... (%zu bytes)", n);
+    printf("\n");
+}
+
+static void print_answer(const char *who, uint64_t a)
+{
+    printf("%-6s %016llx  number %u", who, (unsigned long long)a, (unsigned)lukasembo_number(a));
+    if (now.writer)
+        printf(", segments %zu\n", lukasembo_segments(a));
+    else
+        printf(", kind %u, minor %u, length %zu\n", (unsigned)lukasembo_kind(a), lukasembo_minor(a), lukasembo_length(a));
+}
+
+static void put_number(FILE *f, uint64_t x)
+{
+    int i;
+
+    for (i = 56; i >= 0; i -= 8)
+        putc((int)(x >> i & 0xFF), f);
+}
+
+/* "LKH1", eight bytes, three numbers of 8 bytes (big-endian), the input. */
+static void save(const char *name)
+{
+    FILE *f = fopen(name, "wb");
+
+    if (f == NULL) {
+        printf("%s can't be written\n", name);
+        return;
+    }
+    fwrite("LKH1", 1, 4, f);
+    putc(now.phase, f);
+    putc(now.writer, f);
+    putc(now.kind, f);
+    putc(now.planted, f);
+    putc(now.place[INPUT], f);
+    putc(now.shift[INPUT], f);
+    putc(now.place[BUFFER], f);
+    putc(now.shift[BUFFER], f);
+    put_number(f, now.pattern);
+    put_number(f, now.room);
+    put_number(f, now.n);
+    fwrite(now.input, 1, now.n, f);
+    if (fclose(f) == 0)
+        printf("written to %s\n", name);
+}
+
+static void print_call(void)
+{
+    static const char *const place_name[PLACES] = {"between guard bytes", "at the start of its page", "at the end of its page"};
+
+    printf("phase %s, %s", phase_name[now.phase], now.writer ? "writer" : "reader");
+    if (now.writer)
+        printf(", kind %u", now.kind);
+    printf("; input %zu bytes, %s; buffer %zu bytes, %s\n", now.n, place_name[now.place[INPUT]], now.room,
+           place_name[now.place[BUFFER]]);
+    printf("input  ");
+    print_hex(now.input, now.n);
+}
+
+/* ---- One call ---- */
+
+/* A region with memory that can't be touched before and after it. */
+static uint8_t *new_region(size_t size)
+{
+    const size_t page = (size_t)sysconf(_SC_PAGESIZE);
+    uint8_t *p = mmap(NULL, size + 2 * page, PROT_READ | PROT_WRITE, MAP_PRIVATE | MAP_ANONYMOUS, -1, 0);
+
+    if (p == MAP_FAILED || mprotect(p, page, PROT_NONE) != 0 || mprotect(p + page + size, page, PROT_NONE) != 0) {
+        fprintf(stderr, "harness: no memory\n");
+        exit(2);
+    }
+    return p + page;
+}
+
+static void new_regions(void)
+{
+    const size_t page = (size_t)sysconf(_SC_PAGESIZE);
+    struct rng r = {1};
+    int side, m;
+
+    region_size[INPUT] = (MAKE_ROOM + 4 * GUARD + page - 1) / page * page;
+    region_size[BUFFER] = (BUFFER_ROOM + 4 * GUARD + page - 1) / page * page;
+    for (side = 0; side < SIDES; side++)
+        for (m = 0; m < MEMORIES; m++)
+            lent[side][m].region = new_region(region_size[m]);
+    rng_fill(&r, pattern, sizeof pattern);
+}
+
+static void lay(struct lent *to, int m, size_t n)
+{
+    const size_t size = region_size[m];
+
+    to->at = to->region + (now.place[m] == AT_START ? 0 : now.place[m] == AT_END ? size - n : GUARD + (size_t)now.shift[m]);
+    to->before = now.place[m] == AT_START ? 0 : GUARD;
+    to->after = now.place[m] == AT_END ? 0 : GUARD;
+}
+
+static uint64_t call_ours(const uint8_t *input, uint8_t *buffer)
+{
+    if (now.writer)
+        return lukasembo_write(input, now.n, now.kind, buffer, now.room);
+    return lukasembo_read(input, now.n, buffer, now.room);
+}
+
+/* In the form of our answer. A kind that is neither 0 nor 1 is "next" for ours and "this" for plain: it is given 0. */
+static uint64_t call_plain(const uint8_t *input, uint8_t *buffer)
+{
+    if (now.writer) {
+        const struct plain_write a = plain_write(input, now.n, now.kind == LUKASEMBO_THIS, buffer, now.room);
+
+        return (uint64_t)a.number | (uint64_t)a.segments << 16;
+    } else {
+        const struct plain_read a = plain_read(input, now.n, buffer, now.room);
+
+        return (uint64_t)a.number | (uint64_t)a.kind << 8 | (uint64_t)a.minor << 9 | (uint64_t)a.length << 16;
+    }
+}
+
+/* How many bytes an answer says are written. */
+static size_t written_by(uint64_t a)
+{
+    if (lukasembo_number(a) != 0)
+        return 0;
+    return now.writer ? LUKASEMBO_SEGMENT * lukasembo_segments(a) : lukasembo_length(a);
+}
+
+/* Makes one side's result wrong, where it can be: for ours a service's multi and status exchanged,
+   for plain the byte past what was written. */
+static int make_wrong(int side, uint8_t *to)
+{
+    const size_t n = written_by(answer[side]);
+    size_t at = 5;
+
+    if (n == 0 || n > now.room)
+        return 0;
+    if (side == PLAIN) {
+        if (n < now.room)
+            to[n] ^= 1;
+        return n < now.room;
+    }
+    if (now.writer) { /* the first service's bits are the 12th byte of the chunk */
+        const unsigned bits = to[13], multi = bits >> 3 & 3, status = bits >> 1 & 3;
+
+        if (to[6] == 0 || to[10] == 0 || multi == status)
+            return 0;
+        to[13] = (uint8_t)((bits & 0xE1) | status << 3 | multi << 1);
+        return 1;
+    }
+    while (at + 6 <= n)
+        if (to[at] == 'E')
+            at += 6;
+        else if (to[at + 4] == to[at + 5])
+            at += 7;
+        else {
+            const uint8_t multi = to[at + 4];
+
+            to[at + 4] = to[at + 5];
+            to[at + 5] = multi;
+            return 1;
+        }
+    return 0;
+}
+
+/* Where the two begin to differ, or n. */
+static size_t same(const uint8_t *a, const uint8_t *b, size_t n)
+{
+    size_t i;
+
+    if (memcmp(a, b, n) == 0)
+        return n;
+    for (i = 0; a[i] == b[i]; i++)
+        ;
+    return i;
+}
+
+/* What is wrong, or null; *at is the byte, from the start of the buffer, or NOWHERE. */
+static const char *compare(long *at)
+{
+    const struct lent *o = &lent[OURS][BUFFER], *p = &lent[PLAIN][BUFFER];
+    const size_t all = o->before + now.room + o->after;
+    const uint64_t a = answer[OURS];
+    const size_t written = written_by(a);
+    size_t i;
+    int side;
+
+    *at = NOWHERE;
+    if (a != answer[PLAIN])
+        return "the answers differ";
+    i = same(o->at - o->before, p->at - p->before, all);
+    if (i < all) {
+        *at = (long)i - (long)o->before;
+        return *at < 0 || *at >= (long)now.room ? "the bytes around the buffers differ" : "the buffers differ";
+    }
+    if (written > now.room)
+        return "both answer more than the buffer holds";
+    i = same(o->at - o->before, pattern + now.pattern, o->before);
+    if (i == o->before)
+        i += written + same(o->at + written, pattern + now.pattern + i + written, all - i - written);
+    if (i < all) {
+        *at = (long)i - (long)o->before;
+        return "both changed a byte that should stay";
+    }
+    for (side = 0; side < SIDES; side++) {
+        const struct lent *in = &lent[side][INPUT];
+
+        if (memcmp(in->at - in->before, pattern, in->before) != 0 || memcmp(in->at, now.input, now.n) != 0
+            || memcmp(in->at + now.n, pattern + in->before, in->after) != 0)
+            return side == OURS ? "ours changed its input" : "plain changed its input";
+    }
+    if (now.want != NULL && *now.want != a)
+        return "both answer other than wanted";
+    i = now.want_bytes == NULL ? written : same(o->at, now.want_bytes, written);
+    if (i < written) {
+        *at = (long)i;
+        return "both write other than wanted";
+    }
+    return NULL;
+}
+
+static const char *run(long *at)
+{
+    int side;
+
+    for (side = 0; side < SIDES; side++) {
+        struct lent *in = &lent[side][INPUT], *out = &lent[side][BUFFER];
+
+        lay(in, INPUT, now.n);
+        lay(out, BUFFER, now.room);
+        memcpy(in->at - in->before, pattern, in->before);
+        if (now.n > 0)
+            memcpy(in->at, now.input, now.n);
+        memcpy(in->at + now.n, pattern + in->before, in->after);
+        memcpy(out->at - out->before, pattern + now.pattern, out->before + now.room + out->after);
+    }
+    at_work = OURS;
+    answer[OURS] = call_ours(lent[OURS][INPUT].at, lent[OURS][BUFFER].at);
+    at_work = PLAIN;
+    answer[PLAIN] = call_plain(lent[PLAIN][INPUT].at, lent[PLAIN][BUFFER].at);
+    at_work = -1;
+    if (now.planted != 0)
+        make_wrong(now.planted - 1, lent[now.planted - 1][BUFFER].at);
+    else if (plant != 0 && calls >= next_plant && make_wrong(plant - 1, lent[plant - 1][BUFFER].at)) {
+        now.planted = (uint8_t)plant;
+        next_plant += PLANT_EVERY;
+    }
+    return compare(at);
+}
+
+static void report(const char *wrong, long at)
+{
+    printf("\nA DIFFERENCE at call %llu: %s\n", (unsigned long long)calls, wrong); /* 0 in a replay */
+    if (now.planted != 0)
+        printf("(planted: %s)\n", now.planted == 1 + OURS ? "ours" : "plain");
+    print_call();
+    if (now.want != NULL)
+        print_answer("wanted", *now.want);
+    print_answer("ours", answer[OURS]);
+    print_answer("plain", answer[PLAIN]);
+    if (at != NOWHERE)
+        printf("byte %ld from the start of the buffer: ours %02x, plain %02x\n", at, lent[OURS][BUFFER].at[at],
+               lent[PLAIN][BUFFER].at[at]);
+}
+
+/* A call that touches what was not lent to it, or breaks off. */
+static void on_signal(int sig)
+{
+    printf("\nA DIFFERENCE at call %llu: signal %d in %s\n", (unsigned long long)calls, sig,
+           at_work == OURS ? "ours" : at_work == PLAIN ? "plain" : "the harness");
+    if (at_work >= 0) {
+        print_call();
+        save("harness-failure.bin");
+    }
+    fflush(stdout);
+    _exit(1);
+}
+
+static void watch_signals(void)
+{
+    static const int signals[] = {SIGSEGV, SIGBUS, SIGILL, SIGFPE, SIGABRT};
+    static uint8_t other_stack[65536];
+    stack_t stack;
+    struct sigaction action;
+    size_t i;
+
+    memset(&stack, 0, sizeof stack);
+    stack.ss_sp = other_stack;
+    stack.ss_size = sizeof other_stack;
+    sigaltstack(&stack, NULL);
+    memset(&action, 0, sizeof action);
+    action.sa_handler = on_signal;
+    action.sa_flags = SA_ONSTACK;
+    for (i = 0; i < sizeof signals / sizeof *signals; i++)
+        sigaction(signals[i], &action, NULL);
+}
+
+/* Both sides, once; now has the phase, the call, its kind, input and room. */
+static void hold(void)
+{
+    const uint64_t x = rng_next(&rng);
+    const char *wrong;
+    long at;
+    int m;
+
+    if (calls == limit)
+        return;
+    calls++;
+    for (m = 0; m < MEMORIES; m++) {
+        const unsigned d = (unsigned)(x >> 16 * m);
+
+        now.place[m] = (uint8_t)((d & 3) == 3 ? AT_END : d & 3);
+        now.shift[m] = (uint8_t)(d >> 2 & (GUARD - 1));
+    }
+    now.pattern = (uint32_t)(x >> 48) % PATTERNS;
+    now.planted = 0;
+    wrong = run(&at);
+    if (wrong != NULL) {
+        report(wrong, at);
+        save("harness-failure.bin");
+        exit(1);
+    }
+    seen[now.writer][answer[OURS] & 0xFF]++;
+    now.want = NULL;
+    now.want_bytes = NULL;
+}
+
+/* Most often exactly enough; sometimes longer, a byte too short, 0, or shorter still. */
+static size_t any_room(size_t enough)
+{
+    const unsigned d = rng_below(&rng, 64);
+
+    if (d < 2)
+        return enough - 1;
+    if (d == 2)
+        return 0;
+    if (d == 3)
+        return rng_below(&rng, (unsigned)enough);
+    if (d == 4 && rng_once_in(&rng, 64))
+        return LONG + rng_below(&rng, 2048);
+    if (d < 16)
+        return enough + 1 + rng_below(&rng, d < 8 ? 4 : 300);
+    return enough;
+}
+
+static void hold_read(const uint8_t *chunk, size_t n)
+{
+    now.writer = 0;
+    now.kind = 0;
+    now.input = chunk;
+    now.n = n;
+    now.room = any_room(LUKASEMBO_LISTING);
+    hold();
+}
+
+static void hold_write(const uint8_t *listing, size_t n, unsigned kind)
+{
+    now.writer = 1;
+    now.kind = (uint8_t)kind;
+    now.input = listing;
+    now.n = n;
+    now.room = any_room(LUKASEMBO_OUTPUT);
+    hold();
+}
+
+/* ---- The reader's phases ---- */
+
+/* A stuffed length: none, to a whole number of payloads, the longest, any. */
+static size_t any_length(size_t n)
+{
+    switch (rng_below(&rng, 5)) {
+    case 0: return n;
+    case 1: return (n + MAKE_PAYLOAD - 1) / MAKE_PAYLOAD * MAKE_PAYLOAD;
+    case 2: return MAKE_CHUNK;
+    case 3: return n + rng_below(&rng, 4);
+    default: return n < MAKE_CHUNK ? n + rng_below(&rng, MAKE_CHUNK - (unsigned)n + 1) : n;
+    }
+}
+
+/* A chunk of this shape whose records take at most so many bytes. */
+static void any_chunk(const struct make_shape *shape, size_t most)
+{
+    make_list(&rng, &list, shape, most);
+    make_chunk(&rng, &list, shape, &made);
+}
+
+/* Every length from 0 to 561. */
+static void lengths(uint64_t i)
+{
+    const size_t n = (size_t)(i % (MAKE_CHUNK + 2));
+    const struct make_shape shape = make_shape(&rng);
+
+    switch (i / (MAKE_CHUNK + 2) % 4) {
+    case 0: /* any bytes */
+        rng_fill(&rng, made.bytes, n);
+        break;
+    case 1: /* sound, if there is room for the header */
+        any_chunk(&shape, n);
+        make_stuffing(&rng, &made, n);
+        break;
+    case 2: /* a longer one, cut */
+        any_chunk(&shape, n + 1 + rng_below(&rng, 80));
+        make_stuffing(&rng, &made, n);
+        break;
+    default: /* any bytes after a header with few ensembles */
+        rng_fill(&rng, made.bytes, MAKE_CHUNK + 2);
+        made.bytes[0] &= 0x3F;
+        made.bytes[4 + (made.bytes[0] & 7)] = (uint8_t)rng_below(&rng, 4);
+        break;
+    }
+    hold_read(made.bytes, n);
+}
+
+/* Every pair of first two bytes, with short bodies. */
+static void heads(uint64_t i)
+{
+    static const uint8_t body[] = {2, 3, 4, 5, 6, 7, 8, 9, 10, 12, 13, 14, 16, 20, 25, 35, 40, 50, 70};
+    const unsigned head = (unsigned)(i % 65536);
+    const size_t n = body[(i + i / 65536) % sizeof body];
+    const struct make_shape shape = {0, head >> 8 & 7, head >> 5 & 7, head >> 2 & 7, head & 1, 0};
+
+    if (rng_once_in(&rng, 4))
+        rng_fill(&rng, made.bytes, n);
+    else {
+        any_chunk(&shape, n);
+        make_stuffing(&rng, &made, n);
+    }
+    made.bytes[0] = (uint8_t)(head >> 8);
+    made.bytes[1] = (uint8_t)head;
+    hold_read(made.bytes, n);
+}
+
+/* Every edition, extension length and kind in turn; answer and listing are known. */
+static void sound(uint64_t i)
+{
+    static struct made listing;
+    const unsigned k = (unsigned)(i % 8192);
+    const struct make_shape shape = {k & 7, k >> 3 & 7, k >> 6 & 7, k >> 9 & 7, k >> 12, 0};
+    uint64_t want;
+
+    any_chunk(&shape, rng_once_in(&rng, 2) ? MAKE_CHUNK : 12 + rng_below(&rng, MAKE_CHUNK - 12));
+    make_stuffing(&rng, &made, any_length(made.n));
+    make_listing(&list, &listing);
+    want = (uint64_t)shape.kind << 8 | (uint64_t)shape.minor << 9 | (uint64_t)listing.n << 16;
+    now.writer = 0;
+    now.kind = 0;
+    now.input = made.bytes;
+    now.n = made.n;
+    now.room = any_room(LUKASEMBO_LISTING);
+    if (made.n > MAKE_CHUNK)
+        want = 8;
+    if (now.room < LUKASEMBO_LISTING)
+        want = 1;
+    now.want = &want;
+    now.want_bytes = listing.bytes;
+    hold();
+}
+
+/* times 0: two to five. */
+static void damaged(uint64_t i, unsigned times)
+{
+    const struct make_shape shape = make_shape(&rng);
+
+    any_chunk(&shape, rng_once_in(&rng, 2) ? MAKE_CHUNK : 12 + rng_below(&rng, 100));
+    make_stuffing(&rng, &made, any_length(made.n));
+    if (times == 1)
+        make_damage_chunk(&rng, &made, (unsigned)(i % MAKE_CHUNK_DAMAGES));
+    else
+        for (times = 2 + rng_below(&rng, 4); times > 0; times--)
+            make_damage_chunk(&rng, &made, rng_below(&rng, MAKE_CHUNK_DAMAGES));
+    hold_read(made.bytes, made.n);
+}
+
+/* Records just over 560 bytes, whole or cut there; sound chunks stuffed to more; lengths that 16 bits don't hold. */
+static void too_long(uint64_t i)
+{
+    const struct make_shape shape = make_shape(&rng);
+
+    if (i % 4 < 2) {
+        any_chunk(&shape, MAKE_CHUNK + 1 + rng_below(&rng, 12));
+        if (i % 4 == 0 && made.n > MAKE_CHUNK)
+            made.n = MAKE_CHUNK;
+    } else {
+        any_chunk(&shape, MAKE_CHUNK);
+        make_stuffing(&rng, &made, i % 64 == 2 ? LONG + (size_t)rng_below(&rng, 600) : MAKE_CHUNK + 1 + (size_t)rng_below(&rng, 80));
+    }
+    hold_read(made.bytes, made.n);
+}
+
+/* ---- The writer's phases ---- */
+
+static const struct make_shape written = {0, 0, 0, 0, 0, 1}; /* what the writer makes, for the next frame */
+
+/* Writes the listing of list, with its answer and its segments known. */
+static void hold_written(unsigned kind)
+{
+    static struct made chunk;
+    static uint8_t segments[MAKE_PLACES][MAKE_SEGMENT];
+    struct make_shape shape = written;
+    uint64_t want = 14;
+
+    shape.kind = kind;
+    make_listing(&list, &made);
+    if (make_size(&list, &shape) <= MAKE_CHUNK) {
+        make_chunk(&rng, &list, &shape, &chunk);
+        want = (uint64_t)make_segments(&rng, chunk.bytes, chunk.n, kind, 1, segments) << 16;
+    }
+    now.writer = 1;
+    now.kind = (uint8_t)kind;
+    now.input = made.bytes;
+    now.n = made.n;
+    now.room = any_room(LUKASEMBO_OUTPUT);
+    if (now.room < LUKASEMBO_OUTPUT)
+        want = 1;
+    now.want = &want;
+    now.want_bytes = segments[0];
+    hold();
+}
+
+static void listings(uint64_t i)
+{
+    make_list(&rng, &list, &written, rng_once_in(&rng, 2) ? MAKE_CHUNK : 12 + rng_below(&rng, 100));
+    hold_written((unsigned)(i % 2));
+}
+
+/* The counts about the limit of 560 bytes, for every number of ensembles. */
+static void limits(uint64_t i)
+{
+    static const uint8_t named[][2] = {{1, 183}, {1, 184}, {3, 181}, {3, 182}};
+    const unsigned k = (unsigned)(i / 2 % 1024);
+    unsigned ensembles, services;
+
+    if (k % 8 == 0) {
+        ensembles = named[k / 8 % 4][0];
+        services = named[k / 8 % 4][1];
+    } else if (k % 8 == 1) { /* far above it: sums that 8 bits don't hold */
+        ensembles = 2 + rng_below(&rng, 7);
+        services = 184 + rng_below(&rng, 255 * ensembles - 183);
+    } else {
+        ensembles = rng_below(&rng, 142);
+        services = (ensembles > 138 ? 0 : (MAKE_CHUNK - 5 - 4 * ensembles) / 3) + rng_below(&rng, 4);
+        services = services > 0 ? services - 1 : 0;
+    }
+    make_counts(&rng, &list, ensembles, services);
+    hold_written((unsigned)(i % 2));
+}
+
+/* times 0: two to five. */
+static void bad_listings(uint64_t i, unsigned times)
+{
+    make_list(&rng, &list, &written, rng_once_in(&rng, 2) ? MAKE_CHUNK + 20 : 12 + rng_below(&rng, 100));
+    make_listing(&list, &made);
+    if (times == 1)
+        make_damage_listing(&rng, &made, (unsigned)(i % MAKE_LISTING_DAMAGES));
+    else
+        for (times = 2 + rng_below(&rng, 4); times > 0; times--)
+            make_damage_listing(&rng, &made, rng_below(&rng, MAKE_LISTING_DAMAGES));
+    hold_write(made.bytes, made.n, rng_below(&rng, 2));
+}
+
+/* Every cut of one listing after another; in between, any bytes of that length. */
+static void cuts(uint64_t i)
+{
+    static struct made whole;
+    static size_t n;
+    static uint8_t any[2048];
+
+    if (i == 0 || n > whole.n) {
+        make_list(&rng, &list, &written, 12 + rng_below(&rng, 548));
+        make_listing(&list, &whole);
+        n = 0;
+    }
+    if (i % 4 != 3) {
+        hold_write(whole.bytes, n++, rng_below(&rng, 2));
+        return;
+    }
+    rng_fill(&rng, any, n);
+    if (rng_once_in(&rng, 2))
+        memcpy(any, whole.bytes, n < 5 ? n : 5);
+    hold_write(any, n, rng_below(&rng, 2));
+}
+
+/* Every byte as kind. */
+static void kinds(uint64_t i)
+{
+    make_list(&rng, &list, &written, 12 + rng_below(&rng, 100));
+    make_listing(&list, &made);
+    hold_write(made.bytes, made.n, (unsigned)(i % 256));
+}
+
+/* Listings up to the longest that counts of 255 allow, sound, damaged, and damaged in the last record.
+   A fourth has counts whose chunk's length would be short in 16 bits. */
+static void long_listings(uint64_t i)
+{
+    unsigned ensembles = 1 + rng_below(&rng, 255), services;
+
+    switch (i % 4) {
+    case 0: ensembles = 255; services = 255 * 255; break;
+    case 1: services = 255 * ensembles; break;
+    case 2: services = rng_below(&rng, 255 * ensembles); break;
+    default:
+        ensembles = 180 + rng_below(&rng, 76);
+        services = (LONG * (1 + rng_below(&rng, 2)) - 3 - 4 * ensembles) / 3 + rng_below(&rng, 180);
+        break;
+    }
+    make_counts(&rng, &list, ensembles, services);
+    make_listing(&list, &made);
+    if (i % 3 == 1)
+        make_damage_listing(&rng, &made, rng_below(&rng, MAKE_LISTING_DAMAGES));
+    else if (i % 3 == 2)
+        made.bytes[made.n - 1 - rng_below(&rng, 3)] ^= 4;
+    hold_write(made.bytes, made.n, rng_below(&rng, 2));
+}
+
+/* ---- The paper's samples ---- */
+
+static size_t from_hex(const char *hex, uint8_t *to)
+{
+    size_t n = 0;
+    unsigned byte;
+    int used;
+
+    while (sscanf(hex, " %2x%n", &byte, &used) == 1) {
+        to[n++] = (uint8_t)byte;
+        hex += used;
+    }
+    return n;
+}
+
+static void samples(void)
+{
+    static const char listing[] = "5453 0123 01 454E 05 04 03 01 5356 0A01 00 03 00";
+    static const struct {
+        const char *chunk;
+        uint64_t want;
+        const char *listing;
+    } read[] = {
+        {"00 03 01 23 01 05 E0 83 01 0A 01 E6", 18 << 16 | 1 << 8, listing},
+        {"09 43 01 23 AA 01 05 E0 83 BB CC 01 0A 01 E6", 18 << 16 | 1 << 9 | 1 << 8, listing},
+        {"00 03 01 23 00", 5 << 16 | 1 << 8, "54 53 01 23 00"},
+        {"00 03 01 23", 9, ""},
+        {"", 9, ""},
+        {"40", 9, ""},
+        {"40 03", 5, ""},
+        {"00 03 01 23 01", 9, ""},
+        {"00 03 01 23 01 05 E1 83 01 0A 01 E6", 11, ""},
+        {"00 03 01 23 01 05 E0 83 01 0A 01", 9, ""},
+    };
+    uint8_t input[64], want[64];
+    size_t i, n;
+
+    now.writer = 0;
+    now.kind = 0;
+    now.input = input;
+    for (i = 0; i < 2 * sizeof read / sizeof *read; i++) {
+        static const uint64_t one = 1;
+
+        now.n = from_hex(read[i / 2].chunk, input);
+        from_hex(read[i / 2].listing, want);
+        now.room = i % 2 == 0 ? LUKASEMBO_LISTING : LUKASEMBO_LISTING - 1;
+        now.want = i % 2 == 0 ? &read[i / 2].want : &one;
+        now.want_bytes = want;
+        hold();
+    }
+    now.writer = 1;
+    now.kind = LUKASEMBO_THIS;
+    now.n = from_hex(listing, input);
+    now.room = LUKASEMBO_OUTPUT;
+    n = from_hex("32 00 00 03 01 23 01 05 E0 83 01 0A 01 E6", want);
+    memset(want + n, 0xFF, 23);
+    {
+        static const uint64_t one_segment = 1 << 16;
+
+        now.want = &one_segment;
+        now.want_bytes = want;
+        hold();
+    }
+}
+
+/* ---- All ---- */
+
+static void run_phase(int phase, uint64_t n)
+{
+    uint64_t i;
+
+    now.phase = phase;
+    for (i = 0; i < n && calls < limit; i++)
+        switch (phase) {
+        case LENGTHS: lengths(i); break;
+        case HEADS: heads(i); break;
+        case SOUND: sound(i); break;
+        case DAMAGED: damaged(i, 1); break;
+        case DAMAGED_MORE: damaged(i, 0); break;
+        case TOO_LONG: too_long(i); break;
+        case LISTINGS: listings(i); break;
+        case LIMITS: limits(i); break;
+        case BAD_LISTINGS: bad_listings(i, 1); break;
+        case CUTS: cuts(i); break;
+        case KINDS: kinds(i); break;
+        case LONG_LISTINGS: long_listings(i); break;
+        default: bad_listings(i, 0); break;
+        }
+    printf("%-18s %llu\n", phase_name[phase], (unsigned long long)i);
+}
+
+static int run_all(void)
+{
+    uint64_t both[2] = {0, 0};
+    int phase;
+    unsigned i;
+
+    printf("seed %llu\n", (unsigned long long)rng.state);
+    now.phase = SAMPLES;
+    samples();
+    printf("%-18s %llu\n", phase_name[SAMPLES], (unsigned long long)calls);
+    for (phase = 0; phase < BAD_LISTINGS_MORE; phase++)
+        run_phase(phase, phase == LONG_LISTINGS ? limit / 5000 : limit * phase_share[phase] / 1000);
+    run_phase(BAD_LISTINGS_MORE, limit - calls);
+    printf("number      reader      writer\n");
+    for (i = 0; i < 256; i++) {
+        if (i < 15 || seen[0][i] + seen[1][i] > 0)
+            printf("%6u %11llu %11llu\n", i, (unsigned long long)seen[0][i], (unsigned long long)seen[1][i]);
+        both[0] += seen[0][i];
+        both[1] += seen[1][i];
+    }
+    printf("reader %llu calls, writer %llu calls, %llu in all: no difference\n", (unsigned long long)both[0],
+           (unsigned long long)both[1], (unsigned long long)(both[0] + both[1]));
+    if (plant != 0)
+        printf("the plant was not found, or no call came for it\n");
+    return plant != 0 ? 2 : 0;
+}
+
+static uint64_t get_number(FILE *f)
+{
+    uint64_t x = 0;
+    int i;
+
+    for (i = 0; i < 8; i++)
+        x = x << 8 | (uint64_t)(getc(f) & 0xFF);
+    return x;
+}
+
+static int replay(const char *name)
+{
+    FILE *f = fopen(name, "rb");
+    uint8_t head[12];
+    const char *wrong;
+    uint64_t start;
+    long at;
+    int side;
+
+    if (f == NULL || fread(head, 1, 12, f) != 12 || memcmp(head, "LKH1", 4) != 0) {
+        fprintf(stderr, "harness: %s is not a call to replay\n", name);
+        return 2;
+    }
+    now.phase = head[4];
+    now.writer = head[5];
+    now.kind = head[6];
+    now.planted = head[7];
+    now.place[INPUT] = head[8];
+    now.shift[INPUT] = head[9];
+    now.place[BUFFER] = head[10];
+    now.shift[BUFFER] = head[11];
+    start = get_number(f);
+    now.room = (size_t)get_number(f);
+    now.n = (size_t)get_number(f);
+    now.pattern = (uint32_t)start;
+    now.input = made.bytes;
+    if (now.phase >= PHASES || now.writer > 1 || now.planted > SIDES || head[8] >= PLACES || head[10] >= PLACES
+        || head[9] >= GUARD || head[11] >= GUARD || start >= PATTERNS || now.room > BUFFER_ROOM || now.n > MAKE_ROOM
+        || fread(made.bytes, 1, now.n, f) != now.n || getc(f) != EOF) {
+        fprintf(stderr, "harness: %s is not a call to replay\n", name);
+        fclose(f);
+        return 2;
+    }
+    fclose(f);
+    wrong = run(&at);
+    if (wrong != NULL)
+        report(wrong, at);
+    else {
+        print_call();
+        print_answer("ours", answer[OURS]);
+        print_answer("plain", answer[PLAIN]);
+    }
+    for (side = 0; side < SIDES; side++) {
+        const size_t n = written_by(answer[side]);
+
+        printf("%s writes ", side == OURS ? "ours" : "plain");
+        print_hex(lent[side][BUFFER].at, n < now.room ? n : now.room);
+    }
+    printf("%s\n", wrong != NULL ? "a difference" : "no difference");
+    return wrong != NULL;
+}
+
+int main(int argc, char **argv)
+{
+    const char *file = NULL;
+    int i;
+
+    limit = 6000000;
+    rng.state = 1;
+    for (i = 1; i + 1 < argc; i += 2)
+        if (strcmp(argv[i], "--seed") == 0)
+            rng.state = strtoull(argv[i + 1], NULL, 10);
+        else if (strcmp(argv[i], "--calls") == 0)
+            limit = strtoull(argv[i + 1], NULL, 10);
+        else if (strcmp(argv[i], "--replay") == 0)
+            file = argv[i + 1];
+        else if (strcmp(argv[i], "--plant") == 0 && strcmp(argv[i + 1], "ours") == 0)
+            plant = 1 + OURS;
+        else if (strcmp(argv[i], "--plant") == 0 && strcmp(argv[i + 1], "plain") == 0)
+            plant = 1 + PLAIN;
+        else
+            break;
+    if (i != argc) {
+        fprintf(stderr, "usage: harness [--seed N] [--calls M] [--plant ours|plain] [--replay FILE]\n");
+        return 2;
+    }
+    next_plant = PLANT_EVERY;
+    new_regions();
+    watch_signals();
+    return file != NULL ? replay(file) : run_all();
+}

@@ -1,0 +1,94 @@
+-- The answers of the two calls: how great their parts are, and that the one number tells each of them. Assumes nothing.
+use mathlib.Core.Path.{_≡_, refl}
+use mathlib.Core.List.{List}
+use Prim.Native.Nat.{ℕ, _/_, _%_, _≤_, _<_}
+use native.Mathlib.Omega.{arith}
+use lib.Dec.{ltb, lit<, lit≤}
+use lib.ListN.{length}
+use Rattle.octets.specs.Bits.{Bytes}
+use Rattle.meaning.specs.declared.Kind.{Kind}
+use Rattle.meaning.specs.declared.Kind.the-variants.{This, Next}
+use Rattle.meaning.specs.declared.Refusal.{Refusal}
+use Rattle.meaning.specs.declared.Refusal.the-variants.{ShortBuffer, SegmentLength, SegmentType, ErrorBit, OtherMajor, NumberAboveLast, Clash, TooLong, EndsEarly, KindDiffers, OtherVersion, BadDesk, BadListing, TooMany, BadLog}
+use Rattle.meaning.specs.declared.Checked.{Checked}
+use Rattle.meaning.specs.declared.Checked.the-variants.{Fine, Fault}
+use Rattle.meaning.specs.Sizes.{longestListing}
+use Rattle.meaning.specs.Numbers.{numberOf, readNumber, readMinor, readLength}
+use Rattle.meaning.specs.Lists.{currentOf}
+use Rattle.meaning.specs.Listed.{listSaid}
+use Rattle.meaning.specs.Reading.{kindIn, checks, readChecks, readFor, readAnswer}
+use Rattle.meaning.proofs.Checks.{check-passed}
+use Rattle.meaning.proofs.Lengths.{listing-fits}
+use Rattle.meaning.proofs.Listed.{said-fitting}
+use Rattle.segments.specs.Segment.{mostSegments}
+use Rattle.writer.specs.declared.Written.{Written}
+use Rattle.writer.specs.declared.Written.the-variants.{Segments, Refused}
+use Rattle.writer.specs.Writing.{writtenNumber, writtenCount, writeAnswer}
+use Rattle.writer.proofs.Answers.{segments-says}
+use Rattle.writer.proofs.Outputs.{length-segmentsOf}
+use Rattle.lukasembo.specs.Told.{readKind, readTold, writeTold}
+
+-- ---- small numbers
+
+number-small : (f : Refusal) → numberOf f < 0x100
+number-small ShortBuffer = lit< tt
+number-small SegmentLength = lit< tt
+number-small SegmentType = lit< tt
+number-small ErrorBit = lit< tt
+number-small OtherMajor = lit< tt
+number-small NumberAboveLast = lit< tt
+number-small Clash = lit< tt
+number-small TooLong = lit< tt
+number-small EndsEarly = lit< tt
+number-small KindDiffers = lit< tt
+number-small OtherVersion = lit< tt
+number-small BadDesk = lit< tt
+number-small BadListing = lit< tt
+number-small TooMany = lit< tt
+number-small BadLog = lit< tt
+
+current-small : (k : Kind) → currentOf k < 2
+current-small This = lit< tt
+current-small Next = lit< tt
+
+-- ---- the reader
+
+module _ (xs buffer : List ℕ) where
+  pub listing-short : readLength (readAnswer xs buffer) ≤ longestListing
+  unfolding readAnswer
+  listing-short = go (readChecks xs buffer) refl
+    where
+      go : (v : Checked) → readChecks xs buffer ≡ v → readLength (readFor v xs) ≤ longestListing
+      go Fine e = listing-fits xs (check-passed (ltb (length buffer) longestListing) ShortBuffer (checks xs) e .1)
+      go (Fault f) e = lit≤ tt
+
+  read-small : let a = readAnswer xs buffer in (readNumber a < 0x100) × (readKind a < 2) × (readMinor a < 8)
+  unfolding readAnswer
+  read-small = go (readChecks xs buffer)
+    where
+      go : (v : Checked) → let a = readFor v xs in (readNumber a < 0x100) × (readKind a < 2) × (readMinor a < 8)
+      go Fine = (lit< tt, current-small (kindIn xs), omega arith)
+      go (Fault f) = (number-small f, lit< tt, lit< tt)
+
+  -- the header's accessors get the parts back
+  pub read-parts : let a = readAnswer xs buffer in let r = readTold a in (r % 0x100 ≡ readNumber a) × (r / 0x100 % 2 ≡ readKind a) × (r / 0x200 % 8 ≡ readMinor a) × (r / 0x10000 ≡ readLength a)
+  read-parts = omega (arith, read-small)
+
+-- ---- the writer
+
+module _ (xs : List ℕ) (k : Kind) (output : List ℕ) where
+  pub segments-few : Bytes xs → writtenCount (writeAnswer xs k output) ≤ mostSegments
+  segments-few bytes = go (writeAnswer xs k output) refl
+    where
+      go : (a : Written) → a ≡ writeAnswer xs k output → writtenCount a ≤ mostSegments
+      go (Segments n) e =
+          let s = segments-says xs k output (record { answers = e; leaves = refl }) in
+          omega (arith, s, length-segmentsOf k (listSaid xs) (said-fitting xs bytes (s .0)))
+      go (Refused f) e = lit≤ tt
+
+  pub write-parts : let a = writeAnswer xs k output in let r = writeTold a in (r % 0x100 ≡ writtenNumber a) × (r / 0x10000 ≡ writtenCount a)
+  write-parts = omega (arith, small (writeAnswer xs k output))
+    where
+      small : (a : Written) → writtenNumber a < 0x100
+      small (Segments n) = lit< tt
+      small (Refused f) = number-small f
