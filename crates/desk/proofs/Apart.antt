@@ -29,7 +29,7 @@ pub other-kept : (d : Desk) (xs first second : List ℕ) → Kept (d .marks .swa
 other-kept d xs first second =
     let k = segmentKind xs in
     segment-cases d xs first second (Kept (d .marks .swapped) (otherKind k) d first second) (λ f e. (refl, refl, refl, refl, refl))
-    (λ y fine. takes k d xs first second .other)
+    (λ y fine. takes k d xs first second (y .formed) fine .other)
 
 -- ---- what the answer depends on
 
@@ -74,7 +74,7 @@ own-only d e xs first second first′ second′ wd we slot bytes one two =
     segment-cases d xs first second (λ r. foundFor k r ≡ foundFor k (segmentAfter e xs first′ second′))
     (λ f c. (λ i. (Refused f, slot i, bytes i)) ∙ ap (λ (v : Checked). foundFor k (answeredBy v e xs first′ second′)) (sym c ∙ checked))
     (λ y fine.
-    takes-found (takes k d xs first second)
+    takes-found (takes k d xs first second (y .formed) fine)
     ∙ (λ i. found (gathered k xs (side (slot i) (bytes i) (own k d first second .buffer))))
     ∙ gathered-apart k _ _ xs (slotFor k (e .marks)) (bytesFor k e)
     ∙ sym (takes-found (segment-comes e xs first′ second′ k refl (record { formed = we; left = rw (sym one) (y .left); right = rw (sym two) (y .right) }) fine))) in

@@ -99,9 +99,9 @@ module _ (d : Desk) (xs first second : List ℕ) where
   pub other-shown : let r = segmentAfter d xs first second in let j = otherKind (segmentKind xs) in shown j (r .desk) (r .first) (r .second) ≡ shown j d first second
   other-shown =
       let j : Kind = otherKind (segmentKind xs) in
-      let c = takes (segmentKind xs) d xs first second .other in
       segment-cases d xs first second (λ r. shown j (r .desk) (r .first) (r .second) ≡ shown j d first second) (λ f e. refl)
       (λ y fine.
+      let c = takes (segmentKind xs) d xs first second (y .formed) fine .other in
       shown-ready j _ _ _ (taken-ready d xs first second y fine) (c .4) (c .2)
       ∙ ap (take (lengthFor j (d .marks))) (c .3)
       ∙ sym (shown-ready j d first second y refl refl))
@@ -117,11 +117,11 @@ module _ (d : Desk) (xs first second : List ℕ) where
       let t : Bool = d .marks .swapped in
       let own : Kind = segmentKind xs in
       let r : After = takenBy own d xs first second in
-      let h = takes own d xs first second in
       segment-cases d xs first second
       (λ r. r .answer ≡ Listed k n → (k ≡ own) × (n ≤ length (lentFor k t (r .first) (r .second))) × (r .desk .marks .swapped ≡ t) × (n ≤ longestListing) × (shown k (r .desk) (r .first) (r .second) ≡ take n (lentFor k t (r .first) (r .second))))
       (λ f e a. let z : _≡_ {A = ℕ} 0 1 = cc in absurd (omega arith))
       (λ y fine a.
+      let h = takes own d xs first second (y .formed) fine in
       let s : Says own (Listed k n) = subst (Says own) a (taken-says d xs first second y fine) in
       let z = taken-ready d xs first second y fine in
       let small = length-small n (s .1) in

@@ -1,6 +1,6 @@
 -- A well formed desk stays well formed, whatever call is made; and what a segment's call leaves. Assumes nothing.
 use mathlib.Core.Path.{_≡_, refl, ap, _∙_}
-use mathlib.Core.Bool.{Bool, true, false, not, _&&_, and-eq-true-iff, or-true}
+use mathlib.Core.Bool.{Bool, true, false, not, and-eq-true-iff, or-true}
 use mathlib.Core.List.{List}
 use Prim.Native.Nat.{ℕ, _≤_}
 use native.Mathlib.Omega.{arith}
@@ -9,7 +9,6 @@ use lib.Dec.{eqb, leb}
 use lib.ListN.{length, length-append, length-drop}
 use Rattle.octets.proofs.Laws.{either}
 use Rattle.meaning.specs.declared.Kind.{Kind}
-use Rattle.meaning.specs.declared.Kind.the-variants.{This, Next}
 use Rattle.meaning.specs.declared.Checked.{Checked}
 use Rattle.meaning.specs.declared.Checked.the-variants.{Fine, Fault}
 use Rattle.meaning.specs.Sizes.{tsBytes, longestListing}
@@ -19,11 +18,12 @@ use Rattle.meaning.proofs.Lengths.{length-listing, listing-fits}
 use Rattle.slots.specs.declared.Answer.{Answer}
 use Rattle.slots.specs.declared.Answer.the-variants.{Missing, Listed, Refused}
 use Rattle.segments.specs.Segment.{segmentKind, segmentChecks, numberIn}
-use Rattle.slots.specs.Slots.{slotFits, holds, missingIn, clashing}
+use Rattle.slots.specs.Slots.{holds, missingIn, clashing}
 use Rattle.slots.specs.Gathering.{Side, side, Outcome, hold, chunkIn, kindChecks, judged, completed, gathered}
 use Rattle.slots.proofs.Keeps.{empty-fits, gathered-fits}
 use Rattle.desk.specs.declared.Desk.{Desk}
-use Rattle.desk.specs.Desks.{emptied, fresh, lengthFits, wellFormed, slotFor, bytesFor, lengthFor, otherKind, newGathering, newFrame, After, lengthAfter, takenBy, segmentAfter}
+use Rattle.desk.specs.Desks.{emptied, fresh, lengthFits, wellFormed, lengthFor, otherKind, newGathering, newFrame, After, lengthAfter, takenBy, segmentAfter}
+use Rattle.desk.proofs.Parts.{desk-parts, parts-desk, kind-fits, kinds-fit}
 use Rattle.desk.proofs.Roles.{lent-room, both-roles, own, Takes, takes, Ready, segment-cases}
 
 -- ---- the lengths of listings
@@ -36,31 +36,7 @@ length-small n e =
 small-length : (n : ℕ) → tsBytes ≤ n → n ≤ longestListing → lengthFits n ≡ true
 small-length n l h = simp (le-leb _ _ l, le-leb _ _ h, or-true)
 
--- ---- a desk by its parts
-
-pub desk-parts : (d : Desk) → wellFormed d ≡ true → (lengthFits (d .marks .shown) ≡ true) × (lengthFits (d .marks .coming) ≡ true) × (slotFits (d .marks .this) (d .this) ≡ true) × (slotFits (d .marks .next) (d .next) ≡ true)
-unfolding wellFormed
-desk-parts d e =
-    let p = and-eq-true-iff (lengthFits (d .marks .shown) && lengthFits (d .marks .coming)) _ .0 e in
-    let l = and-eq-true-iff (lengthFits (d .marks .shown)) (lengthFits (d .marks .coming)) .0 (p .0) in
-    let s = and-eq-true-iff (slotFits (d .marks .this) (d .this)) (slotFits (d .marks .next) (d .next)) .0 (p .1) in
-    (l .0, l .1, s .0, s .1)
-
-pub parts-desk : (d : Desk) → lengthFits (d .marks .shown) ≡ true → lengthFits (d .marks .coming) ≡ true → slotFits (d .marks .this) (d .this) ≡ true → slotFits (d .marks .next) (d .next) ≡ true → wellFormed d ≡ true
-unfolding wellFormed
-parts-desk d l m s t = simp (l, m, s, t)
-
--- by kind: the length of its listing and its slot fit
-abbrev Fits : Kind → Desk → Type 0
-Fits k d = (lengthFits (lengthFor k (d .marks)) ≡ true) × (slotFits (slotFor k (d .marks)) (bytesFor k d) ≡ true)
-
-pub kind-fits : (k : Kind) (d : Desk) → wellFormed d ≡ true → Fits k d
-kind-fits This d w = let p = desk-parts d w in (p .0, p .2)
-kind-fits Next d w = let p = desk-parts d w in (p .1, p .3)
-
-kinds-fit : (k : Kind) (d : Desk) → Fits k d → Fits (otherKind k) d → wellFormed d ≡ true
-kinds-fit This d p q = parts-desk d (p .0) (q .0) (p .1) (q .1)
-kinds-fit Next d p q = parts-desk d (q .0) (p .0) (q .1) (p .1)
+-- ---- the lengths by kind
 
 pub lengthFor-small : (k : Kind) (d : Desk) → wellFormed d ≡ true → lengthFor k (d .marks) ≤ longestListing
 lengthFor-small k d w = length-small (lengthFor k (d .marks)) (kind-fits k d w .0)
@@ -159,7 +135,7 @@ module _ (d : Desk) (xs first second : List ℕ) (y : Ready d first second) (fin
   r = takenBy k d xs first second
 
   has : Takes k d first second o r
-  has = takes k d xs first second
+  has = takes k d xs first second (y .formed) fine
 
   answers : Answers k (own k d first second) o
   answers = gathered-answers k xs _ (lent-room y k (d .marks .swapped))

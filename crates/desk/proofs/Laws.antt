@@ -1,7 +1,7 @@
 -- Laws of the desk's definitions in the code's own terms. Assumes nothing.
-use mathlib.Core.Path.{_≡_, refl, sym, ap, _∙_}
+use mathlib.Core.Path.{_≡_, sym, ap, _∙_}
 use mathlib.Core.Bool.{Bool, true, false, cond, not}
-use mathlib.Core.List.{List}
+use mathlib.Core.List.{List, _++_}
 use Prim.Native.Nat.{ℕ, _≤_, _<_}
 use borrow.Author.Tests.{lt-ltb, le-ltb, eq-eqb, ne-eqb, le-leb, lt-leb}
 use lib.Dec.{leb}
@@ -20,7 +20,7 @@ use Rattle.slots.specs.Slots.{noBytes, slotFits}
 use Rattle.slots.specs.Gathering.{side, Outcome, outcome, gathered}
 use Rattle.desk.specs.declared.Marks.{Marks}
 use Rattle.desk.specs.declared.Desk.{Desk}
-use Rattle.desk.specs.Desks.{desk, emptied, fresh, lengthFits, wellFormed, newGathering, newFrame, firstServes, lentFor, lengthFor, after, lengthAfter, sideOf, altered, takenBy, segmentAfter, shownLength, shown}
+use Rattle.desk.specs.Desks.{desk, bytesFor, emptied, fresh, lengthFits, wellFormed, slotFor, lengthFor, newGathering, newFrame, firstServes, lentFor, After, after, sideOf, marksWith, bytesWith, takenBy, segmentAfter, shownLength, shown}
 use Rattle.desk.proofs.Roles.{Ready, ready-answered}
 
 -- ---- a listing's length
@@ -48,11 +48,11 @@ module _ (d : Desk) where
     unfit-coming e = simp (shown, e)
 
     module _ (coming : lengthFits (d .marks .coming) ≡ true) where
-      pub unfit-this : slotFits (d .marks .this) (d .this) ≡ false → false ≡ wellFormed d
+      pub unfit-this : slotFits (d .marks .this) (bytesFor This d) ≡ false → false ≡ wellFormed d
       unfolding wellFormed
       unfit-this e = simp (shown, coming, e)
 
-      pub fit-next : slotFits (d .marks .this) (d .this) ≡ true → slotFits (d .marks .next) (d .next) ≡ wellFormed d
+      pub fit-next : slotFits (d .marks .this) (bytesFor This d) ≡ true → slotFits (d .marks .next) (bytesFor Next d) ≡ wellFormed d
       unfolding wellFormed
       fit-next e = simp (shown, coming, e)
 
@@ -62,36 +62,35 @@ module _ (d : Desk) where
   unfolding newGathering
   gathering-unfit e = simp e
 
-  pub gathering-fit : (m : Marks) → wellFormed d ≡ true → m ≡ emptied (d .marks .shown) (d .marks .coming) (d .marks .swapped) .marks → desk m noBytes noBytes ≡ newGathering d
+  pub gathering-fit : (m : Marks) → wellFormed d ≡ true → m ≡ emptied (d .marks .shown) (d .marks .coming) (d .marks .swapped) .marks → desk m (noBytes ++ noBytes) ≡ newGathering d
   unfolding newGathering
-  gathering-fit m e is = ap (λ (n : Marks). desk n noBytes noBytes) is ∙ simp e
+  gathering-fit m e is = ap (λ (n : Marks). desk n (noBytes ++ noBytes)) is ∙ simp e
 
   pub frame-unfit : wellFormed d ≡ false → fresh ≡ newFrame d
   unfolding newFrame
   frame-unfit e = simp e
 
-  pub frame-fit : (m : Marks) → wellFormed d ≡ true → m ≡ emptied (d .marks .coming) 0 (not (d .marks .swapped)) .marks → desk m noBytes noBytes ≡ newFrame d
+  pub frame-fit : (m : Marks) → wellFormed d ≡ true → m ≡ emptied (d .marks .coming) 0 (not (d .marks .swapped)) .marks → desk m (noBytes ++ noBytes) ≡ newFrame d
   unfolding newFrame
-  frame-fit m e is = ap (λ (n : Marks). desk n noBytes noBytes) is ∙ simp e
+  frame-fit m e is = ap (λ (n : Marks). desk n (noBytes ++ noBytes)) is ∙ simp e
 
--- ---- a segment of the kind k that passed the checks on itself, with the buffer of that kind
+-- ---- a segment of the kind k that passed the checks on itself
 
--- what it answers, the desk and the buffer that it leaves
-abbrev Steered : Kind → Desk → List ℕ → List ℕ → Answer → Desk → List ℕ → Type 0
-Steered k d xs buffer a e left = let o = gathered k xs (sideOf k d buffer) in (a ≡ o .answer) × (e ≡ altered k d o) × (left ≡ o .side .buffer)
+-- of the two buffers one is left by what came to the slot, and the other as it was
+lent-after : (one : Bool) (o first second first′ second′ : List ℕ) → cond one first′ second′ ≡ o → cond one second′ first′ ≡ cond one second first → (first′ ≡ cond one o first) × (second′ ≡ cond one second o)
+lent-after true o first second first′ second′ e f = (e, f)
+lent-after false o first second first′ second′ e f = (f, e)
 
--- the desk with this slot and this length for the kind k
-abbrev put : Kind → Desk → Slot → List ℕ → ℕ → Desk
-put This d s bytes n = let m = d .marks in desk (record { this = s; next = m .next; shown = n; coming = m .coming; swapped = m .swapped }) bytes (d .next)
-put Next d s bytes n = let m = d .marks in desk (record { this = m .this; next = s; shown = m .shown; coming = n; swapped = m .swapped }) (d .this) bytes
-
-altered-put : (k : Kind) (d : Desk) (o : Outcome) → put k d (o .side .slot) (o .side .bytes) (lengthAfter (o .answer) (lengthFor k (d .marks))) ≡ altered k d o
-altered-put This d o = refl
-altered-put Next d o = refl
-
-pub steered : (j : Kind) {k : Kind} (d : Desk) (xs buffer : List ℕ) (a : Answer) (s : Slot) (bytes left : List ℕ) (n : ℕ) → k ≡ j → outcome a (side s bytes left) ≡ gathered j xs (sideOf j d buffer) → n ≡ lengthAfter a (lengthFor j (d .marks)) → Steered k d xs buffer a (put j d s bytes n) left
-steered j d xs buffer a s bytes left n is e l =
-    rw is (ap (λ (o : Outcome). o .answer) e, ap (put j d s bytes) l ∙ altered-put j d _ ∙ ap (altered j d) e, ap (λ (o : Outcome). o .side .buffer) e)
+module _ (k : Kind) (d : Desk) (xs first second : List ℕ) where
+  pub steered : (s : Slot) (one : Bool) {a : Answer} {t : Slot} {m : Marks} {part back bytes first′ second′ : List ℕ} → s ≡ slotFor k (d .marks) → part ≡ bytesFor k d → one ≡ firstServes k (d .marks .swapped) → outcome a (side t back (cond one first′ second′)) ≡ gathered k xs (side s part (cond one first second)) → cond one second′ first′ ≡ cond one second first → m ≡ marksWith k (d .marks) t a → bytes ≡ bytesWith k d back → after a (desk m bytes) first′ second′ ≡ takenBy k d xs first second
+  unfolding takenBy
+  steered s one {a} {t} {m} {part} {back} {bytes} {first′} {second′} s-is part-is one-is e other m-is bytes-is =
+      let mine = firstServes k (d .marks .swapped) in
+      let g = e ∙ (λ i. gathered k xs (side (s-is i) (part-is i) (cond (one-is i) first second))) in
+      let l = lent-after one _ first second first′ second′ (ap (λ (o : Outcome). o .side .buffer) g) other in
+      (λ i. after a (desk (m-is i) (bytes-is i)) (l .0 i) (l .1 i))
+      ∙ (λ i. after a (desk (marksWith k (d .marks) t a) (bytesWith k d back)) (cond (one-is i) (gathered k xs (sideOf k d (cond mine first second)) .side .buffer) first) (cond (one-is i) second (gathered k xs (sideOf k d (cond mine first second)) .side .buffer)))
+      ∙ (λ i. after (g i .answer) (desk (marksWith k (d .marks) (g i .side .slot) (g i .answer)) (bytesWith k d (g i .side .bytes))) (cond mine (gathered k xs (sideOf k d (cond mine first second)) .side .buffer) first) (cond mine second (gathered k xs (sideOf k d (cond mine first second)) .side .buffer)))
 
 -- ---- a segment: 12, 1, its own checks, or taken
 
@@ -101,14 +100,14 @@ module _ (d : Desk) (xs first second : List ℕ) where
   taken-unfit e = simp e
 
   module _ (fit : wellFormed d ≡ true) {a : Answer} {m : Marks} where
-    short-with : (a ≡ Refused ShortBuffer) × (m ≡ d .marks) → after (Refused ShortBuffer) d first second ≡ segmentAfter d xs first second → after a (desk m (d .this) (d .next)) first second ≡ segmentAfter d xs first second
-    short-with s e = (λ i. after (s .0 i) (desk (s .1 i) (d .this) (d .next)) first second) ∙ e
+    short-with : (a ≡ Refused ShortBuffer) × (m ≡ d .marks) → after (Refused ShortBuffer) d first second ≡ segmentAfter d xs first second → after a (desk m (d .bytes)) first second ≡ segmentAfter d xs first second
+    short-with s e = (λ i. after (s .0 i) (desk (s .1 i) (d .bytes)) first second) ∙ e
 
-    pub first-short : length first < longestListing → (a ≡ Refused ShortBuffer) × (m ≡ d .marks) → after a (desk m (d .this) (d .next)) first second ≡ segmentAfter d xs first second
+    pub first-short : length first < longestListing → (a ≡ Refused ShortBuffer) × (m ≡ d .marks) → after a (desk m (d .bytes)) first second ≡ segmentAfter d xs first second
     unfolding segmentAfter
     first-short h s = short-with s (simp (fit, lt-ltb _ _ h))
 
-    pub second-short : longestListing ≤ length first → length second < longestListing → (a ≡ Refused ShortBuffer) × (m ≡ d .marks) → after a (desk m (d .this) (d .next)) first second ≡ segmentAfter d xs first second
+    pub second-short : longestListing ≤ length first → length second < longestListing → (a ≡ Refused ShortBuffer) × (m ≡ d .marks) → after a (desk m (d .bytes)) first second ≡ segmentAfter d xs first second
     unfolding segmentAfter
     second-short one h s = short-with s (simp (fit, le-ltb _ _ one, lt-ltb _ _ h))
 
@@ -116,13 +115,8 @@ module _ (d : Desk) (xs first second : List ℕ) where
     pub taken-refused : {f : Refusal} → segmentChecks xs ≡ Fault f → after (Refused f) d first second ≡ segmentAfter d xs first second
     taken-refused e = rw (ready-answered d xs first second y, e)
 
-    pub taken-steered : segmentChecks xs ≡ Fine → (mine : Bool) {k : Kind} {a : Answer} {e : Desk} {left : List ℕ} → k ≡ segmentKind xs → firstServes k (d .marks .swapped) ≡ mine → Steered k d xs (cond mine first second) a e left → after a e (cond mine left first) (cond mine second left) ≡ segmentAfter d xs first second
-    unfolding takenBy
-    taken-steered fine mine {k} is serves s =
-        let t = d .marks .swapped in
-        let z = rw (sym serves) at s in
-        rw (ready-answered d xs first second y, fine, sym is, sym serves)
-        (λ i. after (z .0 i) (z .1 i) (cond (firstServes k t) (z .2 i) first) (cond (firstServes k t) second (z .2 i)))
+    pub taken-steered : {k : Kind} {r : After} → segmentChecks xs ≡ Fine → k ≡ segmentKind xs → r ≡ takenBy k d xs first second → r ≡ segmentAfter d xs first second
+    taken-steered fine is e = e ∙ rw (ready-answered d xs first second y, fine, sym is)
 
 -- ---- show
 

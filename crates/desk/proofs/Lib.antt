@@ -1,3 +1,4 @@
+pub mod Parts
 pub mod Roles
 pub mod Keeps
 pub mod Frames

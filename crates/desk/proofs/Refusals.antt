@@ -28,8 +28,8 @@ use Rattle.slots.proofs.Keeps.{slot-numbers}
 use Rattle.desk.specs.declared.Desk.{Desk}
 use Rattle.desk.specs.Desks.{wellFormed, slotFor, bytesFor, After, after, takenBy, callChecks, segmentAfter}
 use Rattle.desk.specs.Effects.{segmentFault, earlyNumbers, chunkNumbers, Leaves, unchanged, spoils, completes}
-use Rattle.desk.proofs.Roles.{own, Takes, takes, unlisted-becomes, missing-unchanged, segment-cases}
-use Rattle.desk.proofs.Keeps.{kind-fits}
+use Rattle.desk.proofs.Roles.{own, Takes, takes, unlisted-becomes, missing-unchanged, called-ready, segment-cases}
+use Rattle.desk.proofs.Parts.{kind-fits}
 
 -- ---- the numbers that some checks can give
 
@@ -123,7 +123,7 @@ module _ (d : Desk) (xs first second : List ℕ) where
       segment-cases d xs first second (λ r. Goes r (r .answer))
       (λ f e. unchanged (subst (Gives earlyNumbers) e (call-gives d xs first second)) refl)
       (λ y fine.
-      let h = takes k d xs first second in
+      let h = takes k d xs first second (y .formed) fine in
       subst (Goes (takenBy k d xs first second)) (sym (h .answer)) (gathered-ends (y .formed) h))
 
 pub refusal-leaves : (d : Desk) (xs first second : List ℕ) (f : Refusal) → let r = segmentAfter d xs first second in r .answer ≡ Refused f → Leaves f d xs first second r
@@ -173,7 +173,7 @@ answer-exactly d xs first second =
     segment-cases d xs first second (λ r. answerFault (r .answer) ≡ segmentFault d xs first second) (λ f e. simp e)
     (λ y fine.
     let called : callChecks d xs first second ≡ Fine = simp (y .formed, le-ltb _ _ (y .left), le-ltb _ _ (y .right), fine) in
-    ap answerFault (takes k d xs first second .answer)
+    ap answerFault (takes k d xs first second (y .formed) fine .answer)
     ∙ gathered-fault k xs (own k d first second)
     ∙ sym (simp called))
 
@@ -188,7 +188,9 @@ module _ (d : Desk) (xs first second : List ℕ) (called : callChecks d xs first
 
   comes : {o : Outcome} → gathered (segmentKind xs) xs (own (segmentKind xs) d first second) ≡ o → Takes (segmentKind xs) d first second o (segmentAfter d xs first second)
   unfolding segmentAfter
-  comes e = rw (called, sym e) (takes (segmentKind xs) d xs first second)
+  comes e =
+      let p = called-ready d xs first second called in
+      rw (called, sym e) (takes (segmentKind xs) d xs first second (p .0 .formed) (p .1))
 
   pub repeat-unchanged : clashing slot bytes xs ≡ false → holds (slot .held) (numberIn xs) ≡ true → segmentAfter d xs first second ≡ after (Missing (missingIn slot)) d first second
   unfolding gathered

@@ -12,14 +12,16 @@ use Rattle.meaning.specs.declared.Refusal.{Refusal}
 use Rattle.meaning.specs.declared.Refusal.the-variants.{ShortBuffer, BadDesk}
 use Rattle.meaning.specs.declared.Checked.{Checked}
 use Rattle.meaning.specs.declared.Checked.the-variants.{Fine, Fault}
-use Rattle.meaning.specs.Sizes.{longestListing}
+use Rattle.meaning.specs.Sizes.{longestChunk, longestListing}
 use Rattle.meaning.proofs.Checks.{check-passed}
 use Rattle.slots.specs.declared.Answer.the-variants.{Missing, Refused}
 use Rattle.segments.specs.Segment.{segmentKind, segmentChecks}
 use Rattle.slots.specs.Gathering.{Side, Outcome, outcome, gathered}
+use Rattle.slots.proofs.Keeps.{slot-numbers, gathered-fits}
 use Rattle.desk.specs.declared.Desk.{Desk}
 use Rattle.desk.specs.Desks.{desk, wellFormed, slotFor, bytesFor, lengthFor, otherKind, firstServes, lentFor, tooShort, After, after, lengthAfter, sideOf, takenBy, callChecks, answeredBy, segmentAfter}
 use Rattle.desk.specs.Effects.{Kept, Becomes}
+use Rattle.desk.proofs.Parts.{kind-fits, same-bytes, altered-bytes}
 
 -- ---- the buffers by their roles
 
@@ -55,14 +57,19 @@ pub record Takes (k : Kind) (d : Desk) (first second : List ℕ) (o : Outcome) (
   pub buffer : lentFor k (d .marks .swapped) (r .first) (r .second) ≡ o .side .buffer
   pub other : Kept (d .marks .swapped) (otherKind k) d first second r
 
-pub takes : (k : Kind) (d : Desk) (xs first second : List ℕ) → Takes k d first second (gathered k xs (own k d first second)) (takenBy k d xs first second)
+gathered-long : (k : Kind) (d : Desk) (xs buffer : List ℕ) → wellFormed d ≡ true → segmentChecks xs ≡ Fine → length (gathered k xs (sideOf k d buffer) .side .bytes) ≡ longestChunk
+gathered-long k d xs buffer w fine = slot-numbers _ _ (gathered-fits k xs (sideOf k d buffer) (kind-fits k d w .1) fine) .0
+
+pub takes : (k : Kind) (d : Desk) (xs first second : List ℕ) → wellFormed d ≡ true → segmentChecks xs ≡ Fine → Takes k d first second (gathered k xs (own k d first second)) (takenBy k d xs first second)
 unfolding takenBy
-takes This d xs first second =
+takes This d xs first second w fine =
     let p = put-roles This (d .marks .swapped) first second _ in
-    record { answer = refl; slot = refl; bytes = refl; size = refl; buffer = p .0; other = (refl, refl, refl, p .1, refl) }
-takes Next d xs first second =
+    let b = altered-bytes This d (gathered This xs (own This d first second)) w (gathered-long This d xs _ w fine) in
+    record { answer = refl; slot = refl; bytes = b .0; size = refl; buffer = p .0; other = (refl, b .1, refl, p .1, refl) }
+takes Next d xs first second w fine =
     let p = put-roles Next (d .marks .swapped) first second _ in
-    record { answer = refl; slot = refl; bytes = refl; size = refl; buffer = p .0; other = (refl, refl, refl, p .1, refl) }
+    let b = altered-bytes Next d (gathered Next xs (own Next d first second)) w (gathered-long Next d xs _ w fine) in
+    record { answer = refl; slot = refl; bytes = b .0; size = refl; buffer = p .0; other = (refl, b .1, refl, p .1, refl) }
 
 module _ {k : Kind} {d : Desk} {first second : List ℕ} {o : Outcome} {r : After} (h : Takes k d first second o r) where
   -- an outcome that lists nothing and has the buffer as it was
@@ -76,11 +83,11 @@ pub missing-unchanged : {n : ℕ} (k : Kind) (d : Desk) (first second : List ℕ
 missing-unchanged This d first second r h =
     let b = unlisted-becomes h (λ n. refl) refl in
     let c = h .other in
-    λ i. after (h .answer i) (desk (record { this = b .0 i; next = c .0 i; shown = b .2 i; coming = c .2 i; swapped = c .4 i }) (b .1 i) (c .1 i)) (b .3 i) (b .4 i)
+    λ i. after (h .answer i) (desk (record { this = b .0 i; next = c .0 i; shown = b .2 i; coming = c .2 i; swapped = c .4 i }) (same-bytes (r .desk) d (b .1) (c .1) i)) (b .3 i) (b .4 i)
 missing-unchanged Next d first second r h =
     let b = unlisted-becomes h (λ n. refl) refl in
     let c = h .other in
-    λ i. after (h .answer i) (desk (record { this = c .0 i; next = b .0 i; shown = c .2 i; coming = b .2 i; swapped = c .4 i }) (c .1 i) (b .1 i)) (b .3 i) (b .4 i)
+    λ i. after (h .answer i) (desk (record { this = c .0 i; next = b .0 i; shown = c .2 i; coming = b .2 i; swapped = c .4 i }) (same-bytes (r .desk) d (c .1) (b .1) i)) (b .3 i) (b .4 i)
 
 -- ---- a segment
 
@@ -99,6 +106,13 @@ long-ready d first second w e =
     (λ s. record { formed = w; left = ltb-false _ _ s; right = ltb-false (length second) longestListing (simp s at e) })
 
 module _ (d : Desk) (xs first second : List ℕ) where
+  -- what the checks before the slot's find fine
+  pub called-ready : callChecks d xs first second ≡ Fine → Ready d first second × (segmentChecks xs ≡ Fine)
+  called-ready e =
+      let a = check-passed (not (wellFormed d)) BadDesk _ e in
+      let b = check-passed (tooShort first || tooShort second) ShortBuffer _ (a .1) in
+      (long-ready d first second (not-false _ (a .0)) (b .0), b .1)
+
   -- it is refused by a check before the slot's, and all is as it was, or it comes to the slot
   pub segment-cases : (P : After → Type 0) → ((f : Refusal) → callChecks d xs first second ≡ Fault f → P (after (Refused f) d first second)) → (Ready d first second → segmentChecks xs ≡ Fine → P (takenBy (segmentKind xs) d xs first second)) → P (segmentAfter d xs first second)
   unfolding segmentAfter
@@ -106,10 +120,7 @@ module _ (d : Desk) (xs first second : List ℕ) where
     where
       go : (v : Checked) → callChecks d xs first second ≡ v → P (answeredBy v d xs first second)
       go (Fault f) e = refused f e
-      go Fine e =
-          let a = check-passed (not (wellFormed d)) BadDesk _ e in
-          let b = check-passed (tooShort first || tooShort second) ShortBuffer _ (a .1) in
-          taken (long-ready d first second (not-false _ (a .0)) (b .0)) (b .1)
+      go Fine e = let p = called-ready e in taken (p .0) (p .1)
 
   -- on a desk that is ready, by the checks on the segment itself
   pub ready-answered : Ready d first second → segmentAfter d xs first second ≡ answeredBy (segmentChecks xs) d xs first second
@@ -117,4 +128,4 @@ module _ (d : Desk) (xs first second : List ℕ) where
   ready-answered y = simp (y .formed, le-ltb _ _ (y .left), le-ltb _ _ (y .right))
 
   pub segment-comes : (k : Kind) → segmentKind xs ≡ k → Ready d first second → segmentChecks xs ≡ Fine → Takes k d first second (gathered k xs (own k d first second)) (segmentAfter d xs first second)
-  segment-comes k is y fine = rw (ready-answered y, fine, is) (takes k d xs first second)
+  segment-comes k is y fine = rw (ready-answered y, fine, is) (takes k d xs first second (y .formed) fine)

@@ -1,15 +1,15 @@
 -- Document 01, "The desk": what is well formed, and what each call answers and leaves.
 use Prim.Native.Nat.{ℕ}
 use mathlib.Core.Bool.{Bool, false, cond, not, _&&_, _||_}
-use mathlib.Core.List.{List}
+use mathlib.Core.List.{List, _++_}
 use lib.Dec.{eqb, leb, ltb}
-use lib.ListN.{length, take}
+use lib.ListN.{length, take, drop}
 use Rattle.meaning.specs.declared.Kind.{Kind}
 use Rattle.meaning.specs.declared.Kind.the-variants.{This, Next}
 use Rattle.meaning.specs.declared.Refusal.the-variants.{ShortBuffer, BadDesk}
 use Rattle.meaning.specs.declared.Checked.{Checked}
 use Rattle.meaning.specs.declared.Checked.the-variants.{Fine, Fault}
-use Rattle.meaning.specs.Sizes.{tsBytes, longestListing}
+use Rattle.meaning.specs.Sizes.{tsBytes, longestChunk, longestListing}
 use Rattle.meaning.specs.Reading.{check}
 use Rattle.slots.specs.declared.Slot.{Slot}
 use Rattle.slots.specs.declared.Answer.{Answer}
@@ -22,13 +22,18 @@ use Rattle.desk.specs.declared.Desk.{Desk}
 
 -- ---- desks
 
-abbrev pub desk : Marks → List ℕ → List ℕ → Desk
-desk m this next = record { marks = m; this = this; next = next }
+abbrev pub desk : Marks → List ℕ → Desk
+desk m bytes = record { marks = m; bytes = bytes }
+
+-- the bytes of a kind's slot: the desk has those of both in one string, for this frame first
+abbrev pub bytesFor : Kind → Desk → List ℕ
+bytesFor This d = take longestChunk (d .bytes)
+bytesFor Next d = drop longestChunk (d .bytes)
 
 -- empty slots, these listings, and the second buffer for this frame if they are swapped
 abbrev pub emptied : ℕ → ℕ → Bool → Desk
 emptied shown coming swapped =
-    desk (record { this = emptySlot; next = emptySlot; shown = shown; coming = coming; swapped = swapped }) noBytes noBytes
+    desk (record { this = emptySlot; next = emptySlot; shown = shown; coming = coming; swapped = swapped }) (noBytes ++ noBytes)
 
 -- empty slots, no listing, and the first buffer for this frame
 abbrev pub fresh : Desk
@@ -41,16 +46,12 @@ lengthFits n = eqb n 0 || leb tsBytes n && leb n longestListing
 unfoldable pub wellFormed : Desk → Bool
 wellFormed d =
     (lengthFits (d .marks .shown) && lengthFits (d .marks .coming))
-    && (slotFits (d .marks .this) (d .this) && slotFits (d .marks .next) (d .next))
+    && (slotFits (d .marks .this) (bytesFor This d) && slotFits (d .marks .next) (bytesFor Next d))
 
--- what a desk has for a kind: its slot, the slot's bytes, the length of its listing
+-- what a desk has for a kind besides: its slot's numbers, and the length of its listing
 abbrev pub slotFor : Kind → Marks → Slot
 slotFor This m = m .this
 slotFor Next m = m .next
-
-abbrev pub bytesFor : Kind → Desk → List ℕ
-bytesFor This d = d .this
-bytesFor Next d = d .next
 
 abbrev pub lengthFor : Kind → Marks → ℕ
 lengthFor This m = m .shown
@@ -105,13 +106,18 @@ abbrev pub sideOf : Kind → Desk → List ℕ → Side
 sideOf k d buffer = side (slotFor k (d .marks)) (bytesFor k d) buffer
 
 -- the desk with that slot and the length of that kind's listing as an outcome has them
+abbrev pub marksWith : Kind → Marks → Slot → Answer → Marks
+marksWith This m s a =
+    record { this = s; next = m .next; shown = lengthAfter a (m .shown); coming = m .coming; swapped = m .swapped }
+marksWith Next m s a =
+    record { this = m .this; next = s; shown = m .shown; coming = lengthAfter a (m .coming); swapped = m .swapped }
+
+abbrev pub bytesWith : Kind → Desk → List ℕ → List ℕ
+bytesWith This d bytes = bytes ++ bytesFor Next d
+bytesWith Next d bytes = bytesFor This d ++ bytes
+
 abbrev pub altered : Kind → Desk → Outcome → Desk
-altered This d o =
-    let m = d .marks in
-    desk (record { this = o .side .slot; next = m .next; shown = lengthAfter (o .answer) (m .shown); coming = m .coming; swapped = m .swapped }) (o .side .bytes) (d .next)
-altered Next d o =
-    let m = d .marks in
-    desk (record { this = m .this; next = o .side .slot; shown = m .shown; coming = lengthAfter (o .answer) (m .coming); swapped = m .swapped }) (d .this) (o .side .bytes)
+altered k d o = desk (marksWith k (d .marks) (o .side .slot) (o .answer)) (bytesWith k d (o .side .bytes))
 
 -- the answer, the desk and both buffers, of which only that kind's may change
 unfoldable pub takenBy : Kind → Desk → List ℕ → List ℕ → List ℕ → After

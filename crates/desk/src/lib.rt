@@ -9,15 +9,15 @@ use slots::Answer;
 use slots::Slot;
 ghost use mathlib.Core.Path.{_≡_};
 ghost use mathlib.Core.Bool.{true, false, not};
-ghost use Prim.Native.Nat.{_≤_};
+ghost use mathlib.Core.List.{_++_};
+ghost use Prim.Native.Nat.{_+_, _≤_};
 ghost use lib.ListN.{length, take};
 ghost use lib.ListN.{length as List·length};
 ghost use denote.Ref.{ptr};
-ghost use Rattle.meaning.specs.Sizes.{longestListing};
-ghost use Rattle.segments.specs.Segment.{segmentChecks, segmentKind};
-ghost use Rattle.desk.specs.Desks.{desk as Desks·desk, emptied as Desks·emptied, fresh as Desks·fresh, lengthFits, wellFormed, newGathering, newFrame, after, segmentAfter, sideOf, altered, lengthAfter, firstServes, lentFor, shownLength, shown as Desks·shown};
-ghost use Rattle.slots.specs.Slots.{emptySlot, noBytes, slotFits};
-ghost use Rattle.slots.specs.Gathering.{gathered};
+ghost use Rattle.meaning.specs.Sizes.{longestChunk, longestListing};
+ghost use Rattle.segments.specs.Segment.{segmentChecks};
+ghost use Rattle.desk.specs.Desks.{desk as Desks·desk, emptied as Desks·emptied, fresh as Desks·fresh, lengthFits, wellFormed, slotFor, newGathering, newFrame, after, marksWith, takenBy, segmentAfter, lengthAfter, firstServes, lentFor, shownLength, shown as Desks·shown};
+ghost use Rattle.slots.specs.Slots.{emptySlot, noBytes};
 
 // The desk's numbers: the slots, the lengths of the listings for this frame and for the next (0 is none), and whether the second buffer
 // serves this frame.
@@ -29,12 +29,13 @@ pub struct Marks {
     pub swapped: bool,
 }
 
-// The desk: its numbers, and the bytes of the two slots.
+// The desk: its numbers, and the bytes of the two slots, those for this frame first.
 pub struct Desk {
     pub marks: Marks,
-    pub this: [u8; 560],
-    pub next: [u8; 560],
+    pub bytes: [u8; 1120],
 }
+
+pub const BYTES: usize = 2 * LONGEST_CHUNK;
 
 // An answer to a segment, with the desk afterwards.
 pub struct Taken {
@@ -119,8 +120,9 @@ fn length_fits(n: usize) -> bool
 }
 
 // Whether a desk is well formed.
-fn fits(marks: Marks, this: &[u8; 560], next: &[u8; 560]) -> bool
-    ensures { λ r. ⌜ r ≡ wellFormed (Desks·desk marks (now (this .entry)) (now (next .entry))) ⌝ }
+fn fits(marks: Marks, bytes: &[u8]) -> bool
+    requires { ⌜ length (now bytes) ≡ longestChunk + longestChunk ⌝ }
+    ensures { λ r. ⌜ r ≡ wellFormed (Desks·desk marks (now (bytes .entry))) ⌝ }
 {
     let mine = marks.this;
     let other = marks.next;
@@ -130,10 +132,21 @@ fn fits(marks: Marks, this: &[u8; 560], next: &[u8; 560]) -> bool
     if !length_fits(marks.coming) {
         return false;
     }
-    if !slots::slot_fits(mine, this) {
+    if !slots::slot_fits(mine, &bytes[..LONGEST_CHUNK]) {
         return false;
     }
-    slots::slot_fits(other, next)
+    slots::slot_fits(other, &bytes[LONGEST_CHUNK..])
+}
+
+// Clears the bytes of both slots. Internal.
+pub fn clear(marks: Marks, bytes: &mut [u8])
+    requires { ⌜ wellFormed (Desks·desk marks (now bytes)) ≡ true ⌝ }
+    ensures { λ _. ⌜ now (bytes .exit) ≡ noBytes ++ noBytes ⌝ }
+{
+    let mine = marks.this;
+    let other = marks.next;
+    slots::clear(mine, &mut bytes[..LONGEST_CHUNK]);
+    slots::clear(other, &mut bytes[LONGEST_CHUNK..]);
 }
 
 // The length of a kind's listing, once a segment of that kind was answered.
@@ -147,51 +160,49 @@ fn length_after(answer: Answer, before: usize) -> usize
     }
 }
 
-// A segment of a kind that passed the checks on itself, with the buffer of that kind.
-fn steer(
-    kind: Kind,
-    marks: Marks,
-    this: &mut [u8; 560],
-    next: &mut [u8; 560],
-    seg: &[u8],
-    buffer: &mut [u8],
-) -> Driven
-    requires { ⌜ (slotFits (marks .this) (now this) ≡ true) × (slotFits (marks .next) (now next) ≡ true) × (segmentChecks (now seg) ≡ Checked.Fine) × (longestListing ≤ length (now buffer)) ⌝ }
-    ensures { λ r. ⌜ (let d = Desks·desk marks (now (this .entry)) (now (next .entry)) in let o = gathered kind (now (seg .entry)) (sideOf kind d (now (buffer .entry))) in (r .answer ≡ o .answer) × (Desks·desk (r .marks) (now (this .exit)) (now (next .exit)) ≡ altered kind d o) × (now (buffer .exit) ≡ o .side .buffer)) ⌝ }
+// The slot of a kind.
+fn own(kind: Kind, marks: Marks) -> Slot
+    ensures { λ r. ⌜ r ≡ slotFor kind marks ⌝ }
 {
     let mine = marks.this;
     let other = marks.next;
     match kind {
-        Kind::This => {
-            let g = slots::gather(Kind::This, mine, this, seg, buffer);
-            let answer = g.answer;
-            let slot = g.slot;
-            Driven {
-                answer: answer,
-                marks: Marks {
-                    this: slot,
-                    next: other,
-                    shown: length_after(answer, marks.shown),
-                    coming: marks.coming,
-                    swapped: marks.swapped,
-                },
-            }
-        }
-        Kind::Next => {
-            let g = slots::gather(Kind::Next, other, next, seg, buffer);
-            let answer = g.answer;
-            let slot = g.slot;
-            Driven {
-                answer: answer,
-                marks: Marks {
-                    this: mine,
-                    next: slot,
-                    shown: marks.shown,
-                    coming: length_after(answer, marks.coming),
-                    swapped: marks.swapped,
-                },
-            }
-        }
+        Kind::This => mine,
+        Kind::Next => other,
+    }
+}
+
+// Where the bytes of a kind's slot begin.
+fn start_of(kind: Kind) -> usize
+    ensures { λ r. ⌜ (kind ≡ Kind.This → r ≡ 0) × (kind ≡ Kind.Next → r ≡ longestChunk) ⌝ }
+{
+    match kind {
+        Kind::This => 0,
+        Kind::Next => LONGEST_CHUNK,
+    }
+}
+
+// The desk's numbers with a kind's slot as it became, and the length of its listing as the answer has it.
+fn with_slot(marks: Marks, kind: Kind, slot: Slot, answer: Answer) -> Marks
+    ensures { λ r. ⌜ r ≡ marksWith kind marks slot answer ⌝ }
+{
+    let mine = marks.this;
+    let other = marks.next;
+    match kind {
+        Kind::This => Marks {
+            this: slot,
+            next: other,
+            shown: length_after(answer, marks.shown),
+            coming: marks.coming,
+            swapped: marks.swapped,
+        },
+        Kind::Next => Marks {
+            this: mine,
+            next: slot,
+            shown: marks.shown,
+            coming: length_after(answer, marks.coming),
+            swapped: marks.swapped,
+        },
     }
 }
 
@@ -215,17 +226,48 @@ fn short(marks: Marks) -> Driven
     }
 }
 
-// A segment comes to a well formed desk whose bytes are lent in place. Internal: for callers that make many calls.
-pub fn drive(
+// A segment that passed the checks on itself comes to the slot of its kind.
+fn steer(
+    kind: Kind,
     marks: Marks,
-    this: &mut [u8; 560],
-    next: &mut [u8; 560],
+    bytes: &mut [u8],
     seg: &[u8],
     first: &mut [u8],
     second: &mut [u8],
 ) -> Driven
-    requires { ⌜ wellFormed (Desks·desk marks (now this) (now next)) ≡ true ⌝ }
-    ensures { λ r. ⌜ after (r .answer) (Desks·desk (r .marks) (now (this .exit)) (now (next .exit))) (now (first .exit)) (now (second .exit)) ≡ segmentAfter (Desks·desk marks (now (this .entry)) (now (next .entry))) (now (seg .entry)) (now (first .entry)) (now (second .entry)) ⌝ }
+    requires { ⌜ (wellFormed (Desks·desk marks (now bytes)) ≡ true) × (segmentChecks (now seg) ≡ Checked.Fine) × (longestListing ≤ length (now first)) × (longestListing ≤ length (now second)) ⌝ }
+    ensures { λ r. ⌜ after (r .answer) (Desks·desk (r .marks) (now (bytes .exit))) (now (first .exit)) (now (second .exit)) ≡ takenBy kind (Desks·desk marks (now (bytes .entry))) (now (seg .entry)) (now (first .entry)) (now (second .entry)) ⌝ }
+{
+    let slot = own(kind, marks);
+    let at = start_of(kind);
+    let one = first_serves(kind, marks.swapped);
+    let g = slots::gather(
+        kind,
+        slot,
+        &mut bytes[at..at + LONGEST_CHUNK],
+        seg,
+        one,
+        first,
+        second,
+    );
+    let answer = g.answer;
+    let became = g.slot;
+    Driven {
+        answer: answer,
+        marks: with_slot(marks, kind, became, answer),
+    }
+}
+
+// A segment comes to a well formed desk whose bytes are lent in place. Internal: for callers that make many calls.
+pub fn drive(
+    marks: Marks,
+    bytes: &mut [u8],
+    seg: &[u8],
+    first: &mut [u8],
+    second: &mut [u8],
+) -> Driven
+    requires { ⌜ wellFormed (Desks·desk marks (now bytes)) ≡ true ⌝ }
+    ensures { λ r. ⌜ after (r .answer) (Desks·desk (r .marks) (now (bytes .exit))) (now (first .exit)) (now (second .exit)) ≡ segmentAfter (Desks·desk marks (now (bytes .entry))) (now (seg .entry)) (now (first .entry)) (now (second .entry)) ⌝ }
 {
     if first.len() < LONGEST_LISTING {
         return short(marks);
@@ -240,11 +282,7 @@ pub fn drive(
         },
         Checked::Fine => {
             let kind = meaning::kind_of(seg[0] / 2 % 2);
-            if first_serves(kind, marks.swapped) {
-                steer(kind, marks, this, next, seg, first)
-            } else {
-                steer(kind, marks, this, next, seg, second)
-            }
+            steer(kind, marks, bytes, seg, first, second)
         }
     }
 }
@@ -260,12 +298,11 @@ impl Desk {
 
     // These numbers, and no bytes.
     fn bare(marks: Marks) -> Desk
-        ensures { λ r. ⌜ r ≡ Desks·desk marks noBytes noBytes ⌝ }
+        ensures { λ r. ⌜ r ≡ Desks·desk marks (noBytes ++ noBytes) ⌝ }
     {
         Desk {
             marks: marks,
-            this: [0u8; LONGEST_CHUNK],
-            next: [0u8; LONGEST_CHUNK],
+            bytes: [0u8; BYTES],
         }
     }
 
@@ -273,9 +310,8 @@ impl Desk {
         ensures { λ r. ⌜ r ≡ wellFormed self ⌝ }
     {
         let marks = self.marks;
-        let this = self.this;
-        let next = self.next;
-        fits(marks, &this, &next)
+        let bytes = self.bytes;
+        fits(marks, &bytes)
     }
 
     // Empties both slots.
@@ -311,17 +347,15 @@ impl Desk {
             };
         }
         let marks = self.marks;
-        let mut this = self.this;
-        let mut next = self.next;
-        let driven = drive(marks, &mut this, &mut next, seg, first, second);
+        let mut bytes = self.bytes;
+        let driven = drive(marks, &mut bytes, seg, first, second);
         let answer = driven.answer;
         let left = driven.marks;
         Taken {
             answer: answer,
             desk: Desk {
                 marks: left,
-                this: this,
-                next: next,
+                bytes: bytes,
             },
         }
     }

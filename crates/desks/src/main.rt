@@ -2,6 +2,7 @@
 mod bench;
 
 use bench::Bench;
+use desk::BYTES;
 use desk::Desk;
 use desk::Marks;
 use meaning::LONGEST_CHUNK;
@@ -109,7 +110,7 @@ fn order() {
     let less =
         b"\x72\x00\x00\x03\x01\x23\x01\x05\xE0\x83\x01\x0A\x01\xE6\xFF\xFF\xFF\xFF\xFF\xFF\xFF\xFF\xFF\xFF\xFF\xFF\xFF\xFF\xFF\xFF\xFF\xFF\xFF\xFF\xFF\xFF";
     let short = LONGEST_LISTING - 1;
-    let bad = Bench::of(desk(18, 5, empty(), 35, 1));
+    let bad = Bench::of(desk(18, 5, empty(), empty(), 35, 1));
     bad.segment_in(b"bad desk, short buffers", seg, short, short)
         .part(b"bad desk, 36 bytes", less, 36);
     Bench::new()
@@ -132,47 +133,26 @@ fn empty() -> Slot {
     slot(0, 0, false)
 }
 
-// A slot's bytes: zeros, but for one place.
-fn bytes(at: usize, byte: u8) -> [u8; 560] {
-    let mut all = [0u8; LONGEST_CHUNK];
-    if at < LONGEST_CHUNK {
+// The slots' bytes: zeros, but for one place.
+fn bytes(at: usize, byte: u8) -> [u8; 1120] {
+    let mut all = [0u8; BYTES];
+    if at < BYTES {
         all[at] = byte;
     }
     all
 }
 
-// A desk with these listing lengths, the second buffer for this frame, and this slot for this frame.
-fn desk(shown: usize, coming: usize, mine: Slot, at: usize, byte: u8) -> Desk {
+// A desk with these listing lengths, the second buffer for this frame, and these slots.
+fn desk(shown: usize, coming: usize, mine: Slot, other: Slot, at: usize, byte: u8) -> Desk {
     Desk {
         marks: Marks {
             this: mine,
-            next: empty(),
+            next: other,
             shown: shown,
             coming: coming,
             swapped: true,
         },
-        this: bytes(at, byte),
-        next: bytes(0, 0),
-    }
-}
-
-// The same desk with its slots exchanged.
-fn turned(desk: Desk) -> Desk {
-    let marks = desk.marks;
-    let mine = marks.this;
-    let other = marks.next;
-    let this = desk.this;
-    let next = desk.next;
-    Desk {
-        marks: Marks {
-            this: other,
-            next: mine,
-            shown: marks.shown,
-            coming: marks.coming,
-            swapped: marks.swapped,
-        },
-        this: next,
-        next: this,
+        bytes: bytes(at, byte),
     }
 }
 
@@ -186,13 +166,14 @@ fn tried(name: &[u8], desk: Desk) {
 }
 
 fn listing(name: &[u8], shown: usize, coming: usize) {
-    tried(name, desk(shown, coming, empty(), 0, 0));
+    tried(name, desk(shown, coming, empty(), empty(), 0, 0));
 }
 
 // The slot for this frame, and the same one for the next.
-fn both(name: &[u8], mine: Slot, at: usize, byte: u8) {
-    tried(name, desk(18, 5, mine, at, byte));
-    tried(name, turned(desk(18, 5, mine, at, byte)));
+fn both(name: &[u8], mine: Slot, place: u16, byte: u8) {
+    let at = place as usize;
+    tried(name, desk(18, 5, mine, empty(), at, byte));
+    tried(name, desk(18, 5, empty(), mine, LONGEST_CHUNK + at, byte));
 }
 
 fn well_formed() {

@@ -105,24 +105,24 @@ kind-small Next = omega arith
 
 -- ---- a new frame: what it shows
 
-module _ (m n : Marks) (this next first second : List ℕ) (fit : wellFormed (desk m this next) ≡ true) (one : longestListing ≤ length first) (two : longestListing ≤ length second) (is : n ≡ emptied (m .coming) 0 (not (m .swapped)) .marks) where
-  pub framed : desk n noBytes noBytes ≡ newFrame (desk m this next)
-  framed = frame-fit (desk m this next) n fit is
+module _ (m n : Marks) (bytes first second : List ℕ) (fit : wellFormed (desk m bytes) ≡ true) (one : longestListing ≤ length first) (two : longestListing ≤ length second) (is : n ≡ emptied (m .coming) 0 (not (m .swapped)) .marks) where
+  pub framed : desk n (noBytes ++ noBytes) ≡ newFrame (desk m bytes)
+  framed = frame-fit (desk m bytes) n fit is
 
-  framed-fits : wellFormed (desk n noBytes noBytes) ≡ true
-  framed-fits = ap wellFormed framed ∙ frame-fits (desk m this next)
+  framed-fits : wellFormed (desk n (noBytes ++ noBytes)) ≡ true
+  framed-fits = ap wellFormed framed ∙ frame-fits (desk m bytes)
 
-  pub framed-length : n .shown ≡ shownLength This (desk n noBytes noBytes) first second
-  framed-length = shown-both This (desk n noBytes noBytes) first second framed-fits one two
+  pub framed-length : n .shown ≡ shownLength This (desk n (noBytes ++ noBytes)) first second
+  framed-length = shown-both This (desk n (noBytes ++ noBytes)) first second framed-fits one two
 
   pub framed-room : n .shown ≤ length (lentFor This (n .swapped) first second)
-  framed-room = omega (arith, framed-length, shown-fits This (desk n noBytes noBytes) first second)
+  framed-room = omega (arith, framed-length, shown-fits This (desk n (noBytes ++ noBytes)) first second)
 
   pub framed-small : (l : List ℕ) → l ≡ take (n .shown) (lentFor This (n .swapped) first second) → length l ≤ longestListing
-  framed-small l e = omega (arith, ap length e, length-take-le (n .shown) (lentFor This (n .swapped) first second) framed-room, framed-length, shown-small This (desk n noBytes noBytes) first second)
+  framed-small l e = omega (arith, ap length e, length-take-le (n .shown) (lentFor This (n .swapped) first second) framed-room, framed-length, shown-small This (desk n (noBytes ++ noBytes)) first second)
 
-  pub framed-lines : (l : List ℕ) → l ≡ take (n .shown) (lentFor This (n .swapped) first second) → frameLines l ≡ frameLines (shown This (desk n noBytes noBytes) first second)
-  framed-lines l e = ap frameLines (shown-is This (desk n noBytes noBytes) first second (n .shown) l framed-length e)
+  pub framed-lines : (l : List ℕ) → l ≡ take (n .shown) (lentFor This (n .swapped) first second) → frameLines l ≡ frameLines (shown This (desk n (noBytes ++ noBytes)) first second)
+  framed-lines l e = ap frameLines (shown-is This (desk n (noBytes ++ noBytes)) first second (n .shown) l framed-length e)
 
 -- ---- a segment: what its answer lists
 
@@ -215,18 +215,18 @@ module _ (s : State) (xs : List ℕ) (at to : ℕ) (out left : List ℕ) (wrote 
         ),
       )
 
-  pub turned-none : (e : Entry) (m : Marks) (read : ℕ) → e ≡ entryIn xs → wholeRecord e ≡ false → m ≡ s .desk .marks → read ≡ at → wrote ≡ to → left ≡ out → Turned (entryIn xs) s xs at to out (state (desk m (s .desk .this) (s .desk .next)) (s .first) (s .second)) read left wrote
+  pub turned-none : (e : Entry) (m : Marks) (read : ℕ) → e ≡ entryIn xs → wholeRecord e ≡ false → m ≡ s .desk .marks → read ≡ at → wrote ≡ to → left ≡ out → Turned (entryIn xs) s xs at to out (state (desk m (s .desk .bytes)) (s .first) (s .second)) read left wrote
   unfolding next linesFor
-  turned-none End m read is w e f g h = by-entry is ((λ i. state (desk (e i) (s .desk .this) (s .desk .next)) (s .first) (s .second)), (f ∙ sym (add-zero at), (g ∙ sym (add-zero to), h)))
-  turned-none Unknown m read is w e f g h = by-entry is ((λ i. state (desk (e i) (s .desk .this) (s .desk .next)) (s .first) (s .second)), (f ∙ sym (add-zero at), (g ∙ sym (add-zero to), h)))
-  turned-none Cut m read is w e f g h = by-entry is ((λ i. state (desk (e i) (s .desk .this) (s .desk .next)) (s .first) (s .second)), (f ∙ sym (add-zero at), (g ∙ sym (add-zero to), h)))
+  turned-none End m read is w e f g h = by-entry is ((λ i. state (desk (e i) (s .desk .bytes)) (s .first) (s .second)), (f ∙ sym (add-zero at), (g ∙ sym (add-zero to), h)))
+  turned-none Unknown m read is w e f g h = by-entry is ((λ i. state (desk (e i) (s .desk .bytes)) (s .first) (s .second)), (f ∙ sym (add-zero at), (g ∙ sym (add-zero to), h)))
+  turned-none Cut m read is w e f g h = by-entry is ((λ i. state (desk (e i) (s .desk .bytes)) (s .first) (s .second)), (f ∙ sym (add-zero at), (g ∙ sym (add-zero to), h)))
   turned-none Frame m read is w e f g h = absurd (true≢false w)
   turned-none Gathering m read is w e f g h = absurd (true≢false w)
   turned-none Segment m read is w e f g h = absurd (true≢false w)
 
 -- the desk's numbers copied
-pub turned-anew : (e : Entry) (s : State) (xs : List ℕ) (at to : ℕ) (out : List ℕ) (m n : Marks) (this next first second : List ℕ) (read : ℕ) (left : List ℕ) (wrote : ℕ) → n ≡ m → Turned e s xs at to out (state (desk m this next) first second) read left wrote → Turned e s xs at to out (state (desk n this next) first second) read left wrote
-turned-anew e s xs at to out m n this next first second read left wrote is t = (ap (λ (o : Marks). state (desk o this next) first second) is ∙ t .0, t .1)
+pub turned-anew : (e : Entry) (s : State) (xs : List ℕ) (at to : ℕ) (out : List ℕ) (m n : Marks) (bytes first second : List ℕ) (read : ℕ) (left : List ℕ) (wrote : ℕ) → n ≡ m → Turned e s xs at to out (state (desk m bytes) first second) read left wrote → Turned e s xs at to out (state (desk n bytes) first second) read left wrote
+turned-anew e s xs at to out m n bytes first second read left wrote is t = (ap (λ (o : Marks). state (desk o bytes) first second) is ∙ t .0, t .1)
 
 -- ---- one record after the other: what is left to fill, put here, makes the whole that was asked for
 
@@ -313,10 +313,10 @@ module _ (log out left : List ℕ) (at to read wrote : ℕ) (s t : State) (turn 
         (subst (λ (f : Filled). Goes out₀ f₀ out at to f) (filled-stop (length out - to) s xs w) goes))))
 
 -- the numbers that the code hands out are those of the last turn
-pub filled-is : (out₀ : List ℕ) (f₀ : Filled) (out : List ℕ) (at to : ℕ) (m n : Marks) (read wrote : ℕ) (this next first second : List ℕ) → Goes out₀ f₀ out at to (still (state (desk m this next) first second)) → (n ≡ m) × (read ≡ at) × (wrote ≡ to) → (state (desk n this next) first second ≡ f₀ .state) × ((read ≡ f₀ .read) × Put (f₀ .text) out₀ 0 out wrote)
-filled-is out₀ f₀ out at to m n read wrote this next first second g same =
-    let d = goes-end out₀ f₀ out at to (state (desk m this next) first second) g in
-    (ap (λ (o : Marks). state (desk o this next) first second) (same .0) ∙ d .0, (same .1 ∙ d .1 .0, (same .2 ∙ d .1 .1 .0, d .1 .1 .1)))
+pub filled-is : (out₀ : List ℕ) (f₀ : Filled) (out : List ℕ) (at to : ℕ) (m n : Marks) (read wrote : ℕ) (bytes first second : List ℕ) → Goes out₀ f₀ out at to (still (state (desk m bytes) first second)) → (n ≡ m) × (read ≡ at) × (wrote ≡ to) → (state (desk n bytes) first second ≡ f₀ .state) × ((read ≡ f₀ .read) × Put (f₀ .text) out₀ 0 out wrote)
+filled-is out₀ f₀ out at to m n read wrote bytes first second g same =
+    let d = goes-end out₀ f₀ out at to (state (desk m bytes) first second) g in
+    (ap (λ (o : Marks). state (desk o bytes) first second) (same .0) ∙ d .0, (same .1 ∙ d .1 .0, (same .2 ∙ d .1 .1 .0, d .1 .1 .1)))
 
 -- an output that is full
 pub full-stops : (out₀ : List ℕ) (f₀ : Filled) (out : List ℕ) (at to : ℕ) (s : State) (xs : List ℕ) → length out - to < longestLines → Goes out₀ f₀ out at to (filled (length out - to) s xs) → Goes out₀ f₀ out at to (still s)

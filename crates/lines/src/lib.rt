@@ -9,8 +9,8 @@ use slots::Answer;
 ghost use mathlib.Core.Path.{_≡_};
 ghost use mathlib.Core.Bool.{true};
 ghost use mathlib.Core.List.{_++_};
-ghost use Prim.Native.Nat.{suc, _+_, _*_, _%_, _≤_, _<_};
-ghost use lib.ListN.{length, take, drop};
+ghost use Prim.Native.Nat.{_+_, _*_, _%_, _≤_, _<_};
+ghost use lib.ListN.{length, drop};
 ghost use lib.Seq.{sets};
 ghost use Rattle.meaning.specs.Sizes.{longestListing};
 ghost use Rattle.segments.specs.Segment.{segmentKind};
@@ -57,8 +57,6 @@ pub fn entry_at(log: &[u8], at: usize) -> Entry
     }
     let mark = octets::word_of(log[at], log[at + 1]);
     match mark {
-        0x4652 => Entry::Frame,
-        0x4741 => Entry::Gathering,
         0x5347 => {
             if left < MARK + SEGMENT {
                 Entry::Cut
@@ -66,6 +64,8 @@ pub fn entry_at(log: &[u8], at: usize) -> Entry
                 Entry::Segment
             }
         }
+        0x4741 => Entry::Gathering,
+        0x4652 => Entry::Frame,
         _ => Entry::Unknown,
     }
 }
@@ -210,22 +210,18 @@ fn put_answer(answer: Answer, listing: &[u8], out: &mut [u8], to: usize) -> usiz
 // A new frame: the desk's bytes cleared, and the lines of what it shows.
 fn frame<'a>(
     marks: Marks,
-    this: &mut [u8; 560],
-    next: &mut [u8; 560],
+    bytes: &mut [u8],
     first: &'a [u8],
     second: &'a [u8],
     out: &mut [u8],
     to: usize,
 ) -> Turned
-    requires { ⌜ Ready (state (Desks·desk marks (now this) (now next)) (now first) (now second)) ⌝ }
+    requires { ⌜ Ready (state (Desks·desk marks (now bytes)) (now first) (now second)) ⌝ }
     requires { ⌜ to + longestLines ≤ length (now out) ⌝ }
-    ensures { λ r. ⌜ Desks·desk (r .marks) (now (this .exit)) (now (next .exit)) ≡ newFrame (Desks·desk marks (now (this .entry)) (now (next .entry))) ⌝ }
-    ensures { λ r. ⌜ Put (frameLines (shown Kind.This (Desks·desk (r .marks) (now (this .exit)) (now (next .exit))) (now (first .entry)) (now (second .entry)))) (now (out .entry)) to (now (out .exit)) (r .to) ⌝ }
+    ensures { λ r. ⌜ Desks·desk (r .marks) (now (bytes .exit)) ≡ newFrame (Desks·desk marks (now (bytes .entry))) ⌝ }
+    ensures { λ r. ⌜ Put (frameLines (shown Kind.This (Desks·desk (r .marks) (now (bytes .exit))) (now (first .entry)) (now (second .entry)))) (now (out .entry)) to (now (out .exit)) (r .to) ⌝ }
 {
-    let mine = marks.this;
-    let other = marks.next;
-    slots::clear(mine, this);
-    slots::clear(other, next);
+    desk::clear(marks, bytes);
     let after = marks.frame();
     let listing = desk::part(Kind::This, after.swapped, after.shown, first, second);
     let end = put_frame(listing, out, to);
@@ -236,21 +232,12 @@ fn frame<'a>(
 }
 
 // A new gathering: the desk's bytes cleared, and its line.
-fn gathering(
-    marks: Marks,
-    this: &mut [u8; 560],
-    next: &mut [u8; 560],
-    out: &mut [u8],
-    to: usize,
-) -> Turned
-    requires { ⌜ (wellFormed (Desks·desk marks (now this) (now next)) ≡ true) × (to + longestLines ≤ length (now out)) ⌝ }
-    ensures { λ r. ⌜ Desks·desk (r .marks) (now (this .exit)) (now (next .exit)) ≡ newGathering (Desks·desk marks (now (this .entry)) (now (next .entry))) ⌝ }
+fn gathering(marks: Marks, bytes: &mut [u8], out: &mut [u8], to: usize) -> Turned
+    requires { ⌜ (wellFormed (Desks·desk marks (now bytes)) ≡ true) × (to + longestLines ≤ length (now out)) ⌝ }
+    ensures { λ r. ⌜ Desks·desk (r .marks) (now (bytes .exit)) ≡ newGathering (Desks·desk marks (now (bytes .entry))) ⌝ }
     ensures { λ r. ⌜ Put (textGA ++ newline) (now (out .entry)) to (now (out .exit)) (r .to) ⌝ }
 {
-    let mine = marks.this;
-    let other = marks.next;
-    slots::clear(mine, this);
-    slots::clear(other, next);
+    desk::clear(marks, bytes);
     let end = put_text(b"GA\n", out, to);
     Turned {
         marks: marks.gathering(),
@@ -261,20 +248,19 @@ fn gathering(
 // A segment: the desk driven, and the lines of its answer.
 fn segment(
     marks: Marks,
-    this: &mut [u8; 560],
-    next: &mut [u8; 560],
+    bytes: &mut [u8],
     first: &mut [u8],
     second: &mut [u8],
     seg: &[u8],
     out: &mut [u8],
     to: usize,
 ) -> Turned
-    requires { ⌜ Ready (state (Desks·desk marks (now this) (now next)) (now first) (now second)) ⌝ }
+    requires { ⌜ Ready (state (Desks·desk marks (now bytes)) (now first) (now second)) ⌝ }
     requires { ⌜ to + longestLines ≤ length (now out) ⌝ }
-    ensures { λ r. ⌜ (Desks·desk (r .marks) (now (this .exit)) (now (next .exit)) ≡ segmentAfter (Desks·desk marks (now (this .entry)) (now (next .entry))) (now (seg .entry)) (now (first .entry)) (now (second .entry)) .desk) × (now (first .exit) ≡ segmentAfter (Desks·desk marks (now (this .entry)) (now (next .entry))) (now (seg .entry)) (now (first .entry)) (now (second .entry)) .first) × (now (second .exit) ≡ segmentAfter (Desks·desk marks (now (this .entry)) (now (next .entry))) (now (seg .entry)) (now (first .entry)) (now (second .entry)) .second) ⌝ }
-    ensures { λ r. ⌜ Put (answerLines (segmentAfter (Desks·desk marks (now (this .entry)) (now (next .entry))) (now (seg .entry)) (now (first .entry)) (now (second .entry)) .answer) (shown (segmentKind (now (seg .entry))) (Desks·desk (r .marks) (now (this .exit)) (now (next .exit))) (now (first .exit)) (now (second .exit)))) (now (out .entry)) to (now (out .exit)) (r .to) ⌝ }
+    ensures { λ r. ⌜ (Desks·desk (r .marks) (now (bytes .exit)) ≡ segmentAfter (Desks·desk marks (now (bytes .entry))) (now (seg .entry)) (now (first .entry)) (now (second .entry)) .desk) × (now (first .exit) ≡ segmentAfter (Desks·desk marks (now (bytes .entry))) (now (seg .entry)) (now (first .entry)) (now (second .entry)) .first) × (now (second .exit) ≡ segmentAfter (Desks·desk marks (now (bytes .entry))) (now (seg .entry)) (now (first .entry)) (now (second .entry)) .second) ⌝ }
+    ensures { λ r. ⌜ Put (answerLines (segmentAfter (Desks·desk marks (now (bytes .entry))) (now (seg .entry)) (now (first .entry)) (now (second .entry)) .answer) (shown (segmentKind (now (seg .entry))) (Desks·desk (r .marks) (now (bytes .exit))) (now (first .exit)) (now (second .exit)))) (now (out .entry)) to (now (out .exit)) (r .to) ⌝ }
 {
-    let driven = desk::drive(marks, this, next, seg, first, second);
+    let driven = desk::drive(marks, bytes, seg, first, second);
     let answer = driven.answer;
     let after = driven.marks;
     match answer {
@@ -314,8 +300,7 @@ fn segment(
 // The record at a place of the log, if it is whole.
 fn turn(
     marks: Marks,
-    this: &mut [u8; 560],
-    next: &mut [u8; 560],
+    bytes: &mut [u8],
     first: &mut [u8],
     second: &mut [u8],
     log: &[u8],
@@ -323,16 +308,16 @@ fn turn(
     out: &mut [u8],
     to: usize,
 ) -> Filled
-    requires { ⌜ Ready (state (Desks·desk marks (now this) (now next)) (now first) (now second)) ⌝ }
+    requires { ⌜ Ready (state (Desks·desk marks (now bytes)) (now first) (now second)) ⌝ }
     requires { ⌜ (at ≤ length (now log)) × (to + longestLines ≤ length (now out)) ⌝ }
-    ensures { λ r. ⌜ state (Desks·desk (r .marks) (now (this .exit)) (now (next .exit))) (now (first .exit)) (now (second .exit)) ≡ Log·next (entryIn (drop at (now (log .entry)))) (state (Desks·desk marks (now (this .entry)) (now (next .entry))) (now (first .entry)) (now (second .entry))) (drop at (now (log .entry))) ⌝ }
+    ensures { λ r. ⌜ state (Desks·desk (r .marks) (now (bytes .exit))) (now (first .exit)) (now (second .exit)) ≡ Log·next (entryIn (drop at (now (log .entry)))) (state (Desks·desk marks (now (bytes .entry))) (now (first .entry)) (now (second .entry))) (drop at (now (log .entry))) ⌝ }
     ensures { λ r. ⌜ r .read ≡ at + recordBytes (entryIn (drop at (now (log .entry)))) ⌝ }
-    ensures { λ r. ⌜ Put (linesFor (entryIn (drop at (now (log .entry)))) (state (Desks·desk marks (now (this .entry)) (now (next .entry))) (now (first .entry)) (now (second .entry))) (drop at (now (log .entry)))) (now (out .entry)) to (now (out .exit)) (r .wrote) ⌝ }
+    ensures { λ r. ⌜ Put (linesFor (entryIn (drop at (now (log .entry)))) (state (Desks·desk marks (now (bytes .entry))) (now (first .entry)) (now (second .entry))) (drop at (now (log .entry)))) (now (out .entry)) to (now (out .exit)) (r .wrote) ⌝ }
 {
     match entry_at(log, at) {
         Entry::Frame => {
             let read = at + MARK;
-            let t = frame(marks, this, next, first, second, out, to);
+            let t = frame(marks, bytes, first, second, out, to);
             let m = t.marks;
             Filled {
                 marks: m,
@@ -342,7 +327,7 @@ fn turn(
         }
         Entry::Gathering => {
             let read = at + MARK;
-            let t = gathering(marks, this, next, out, to);
+            let t = gathering(marks, bytes, out, to);
             let m = t.marks;
             Filled {
                 marks: m,
@@ -353,7 +338,7 @@ fn turn(
         Entry::Segment => {
             let from = at + MARK;
             let read = at + (MARK + SEGMENT);
-            let t = segment(marks, this, next, first, second, &log[from..read], out, to);
+            let t = segment(marks, bytes, first, second, &log[from..read], out, to);
             let m = t.marks;
             Filled {
                 marks: m,
@@ -382,23 +367,22 @@ fn idle(marks: Marks, at: usize, to: usize) -> Filled
 // lent in place.
 pub fn fill(
     marks: Marks,
-    this: &mut [u8; 560],
-    next: &mut [u8; 560],
+    bytes: &mut [u8],
     first: &mut [u8],
     second: &mut [u8],
     log: &[u8],
     out: &mut [u8],
 ) -> Filled
-    requires { ⌜ Ready (state (Desks·desk marks (now this) (now next)) (now first) (now second)) ⌝ }
-    ensures { λ r. ⌜ state (Desks·desk (r .marks) (now (this .exit)) (now (next .exit))) (now (first .exit)) (now (second .exit)) ≡ filled (length (now (out .entry))) (state (Desks·desk marks (now (this .entry)) (now (next .entry))) (now (first .entry)) (now (second .entry))) (now (log .entry)) .state ⌝ }
-    ensures { λ r. ⌜ r .read ≡ filled (length (now (out .entry))) (state (Desks·desk marks (now (this .entry)) (now (next .entry))) (now (first .entry)) (now (second .entry))) (now (log .entry)) .read ⌝ }
-    ensures { λ r. ⌜ Put (filled (length (now (out .entry))) (state (Desks·desk marks (now (this .entry)) (now (next .entry))) (now (first .entry)) (now (second .entry))) (now (log .entry)) .text) (now (out .entry)) 0 (now (out .exit)) (r .wrote) ⌝ }
+    requires { ⌜ Ready (state (Desks·desk marks (now bytes)) (now first) (now second)) ⌝ }
+    ensures { λ r. ⌜ state (Desks·desk (r .marks) (now (bytes .exit))) (now (first .exit)) (now (second .exit)) ≡ filled (length (now (out .entry))) (state (Desks·desk marks (now (bytes .entry))) (now (first .entry)) (now (second .entry))) (now (log .entry)) .state ⌝ }
+    ensures { λ r. ⌜ r .read ≡ filled (length (now (out .entry))) (state (Desks·desk marks (now (bytes .entry))) (now (first .entry)) (now (second .entry))) (now (log .entry)) .read ⌝ }
+    ensures { λ r. ⌜ Put (filled (length (now (out .entry))) (state (Desks·desk marks (now (bytes .entry))) (now (first .entry)) (now (second .entry))) (now (log .entry)) .text) (now (out .entry)) 0 (now (out .exit)) (r .wrote) ⌝ }
 {
     let mut m = marks;
     let mut at = 0;
     let mut to = 0;
     while LINES <= out.len() - to {
-        let f = turn(m, this, next, first, second, log, at, out, to);
+        let f = turn(m, bytes, first, second, log, at, out, to);
         let after = f.marks;
         m = after.anew();
         to = f.wrote;

@@ -1,11 +1,12 @@
 -- A run of stores at to, to + 1, to + 2 and so on, as code writes it, is `sets` there. Assumes nothing.
 use mathlib.Core.Path.{_≡_, refl, sym, ap, _∙_}
-use mathlib.Core.List.{List, [], _∷_, _++_}
+use mathlib.Core.List.{List, [], _∷_, _++_, append-assoc}
 use Prim.Native.Nat.{ℕ, suc, _+_, _≤_, _<_}
 use native.Mathlib.Nat.{add-zero, add-suc, suc-add}
 use native.Mathlib.Numerals.{add-one}
-use lib.ListN.{length, getD, drop, set, drop-of-length-le}
-use lib.Seq.{drop-cons, sets}
+use native.Mathlib.Omega.{arith}
+use lib.ListN.{length, getD, take, drop, set, drop-of-length-le}
+use lib.Seq.{drop-cons, drop-at, length-take-le, take-set-le, drop-set-lt, sets, sets-eq}
 
 -- the elements of vs stored at to + k, to + (k + 1), ..
 abbrev pub stores : List ℕ → ℕ → ℕ → List ℕ → List ℕ
@@ -26,6 +27,21 @@ sets-append [] ws l i = ap (λ (n : ℕ). sets l n ws) (sym (add-zero i))
 sets-append (v ∷ vs) ws l i =
     sets-append vs ws (set l i v) (suc i)
     ∙ ap (λ (n : ℕ). sets (sets l i (v ∷ vs)) n ws) (suc-add i (length vs) ∙ sym (add-suc i (length vs)))
+
+-- it leaves what is before it and what is after it, and stands where it was put
+pub take-sets : (vs l : List ℕ) (i n : ℕ) → n ≤ i → take n (sets l i vs) ≡ take n l
+take-sets [] l i n h = refl
+take-sets (v ∷ vs) l i n h = take-sets vs (set l i v) (suc i) n (omega arith) ∙ take-set-le n l i v h
+
+pub drop-sets : (vs l : List ℕ) (i n : ℕ) → i + length vs ≤ n → drop n (sets l i vs) ≡ drop n l
+drop-sets [] l i n h = refl
+drop-sets (v ∷ vs) l i n h = drop-sets vs (set l i v) (suc i) n (omega arith) ∙ drop-set-lt n l i v (omega arith)
+
+pub drop-stored : (vs l : List ℕ) (i n : ℕ) → n ≡ i + length vs → n ≤ length l → drop i (sets l i vs) ≡ vs ++ drop n l
+drop-stored vs l i n e room =
+    ap (drop i) (sets-eq vs l i (omega arith) ∙ append-assoc (take i l) vs (drop (i + length vs) l))
+    ∙ drop-at (take i l) (vs ++ drop (i + length vs) l) i (length-take-le i l (omega arith))
+    ∙ ap (λ (k : ℕ). vs ++ drop k l) (sym e)
 
 -- ---- a copy, element by element: what is left of xs, put at the place that the code has come to
 

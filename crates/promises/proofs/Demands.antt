@@ -5,7 +5,6 @@
 --   segments::check_segment   the answer is `segmentChecks xs`
 --   reader::check_chunk       the answer is `checks xs`
 --   reader::read              `ReadSays xs before answer after`
---   writer::listing_fits      the answer is `listingFits xs`
 --   writer::write             `WriteSays xs k before answer after`
 --   typed::respond            `ReplySays text before answer after`
 --   Desk::fresh               the desk is `fresh`

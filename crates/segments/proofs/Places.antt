@@ -1,12 +1,12 @@
 -- Laws of 35 bytes at a place. Assumes nothing.
 use mathlib.Core.Path.{_≡_, refl, sym, ap, ap₂, _∙_}
-use mathlib.Core.List.{List, _++_, append-nil}
+use mathlib.Core.List.{List, [], _∷_, _++_, append-nil}
 use Prim.Native.Nat.{ℕ, zero, suc, _+_, _*_, _≤_, _<_}
-use native.Mathlib.Nat.{mul-suc}
+use native.Mathlib.Nat.{zero-add, suc-add, mul-suc}
 use native.Mathlib.Numerals.{add-one}
 use native.Mathlib.Omega.{arith}
 use lib.ListN.{length, getD, set, take, drop, replicate, length-drop, drop-of-length-le}
-use lib.Seq.{drop-cons, getD-take, getD-drop, length-take-le, take-add, take-all, take-append-le, drop-append-le, sets, sets-eq}
+use lib.Seq.{drop-cons, getD-take, getD-drop, length-take-le, take-nil, take-add, take-all, take-append-le, drop-append-le, sets, sets-eq}
 use Rattle.segments.specs.Segment.{segmentBytes, headBytes, payloadBytes, placeOf, payloadIn}
 
 -- the 35 bytes from the place at on
@@ -52,6 +52,17 @@ place-within xs more i h =
     let at : ℕ = payloadBytes * i in
     let room : payloadBytes ≤ length (drop at xs) = omega (arith, length-drop at xs) in
     ap (take payloadBytes) (drop-append-le at xs more (omega arith)) ∙ take-append-le payloadBytes (drop at xs) more room
+
+-- byte strings that are equal as far as a place goes have the same there
+take-drop : (n m : ℕ) (l : List ℕ) → take m (drop n l) ≡ drop n (take (n + m) l)
+take-drop zero m l = ap (λ (k : ℕ). take k l) (sym (zero-add m))
+take-drop (suc n) m [] = rw (suc-add n m) (take-nil m)
+take-drop (suc n) m (x ∷ l) = rw (suc-add n m) (take-drop n m l)
+
+pub place-taken : (xs ys : List ℕ) (i : ℕ) → take (payloadBytes * i + payloadBytes) xs ≡ take (payloadBytes * i + payloadBytes) ys → placeOf xs i ≡ placeOf ys i
+place-taken xs ys i e =
+    let at : ℕ = payloadBytes * i in
+    take-drop at payloadBytes xs ∙ ap (drop at) e ∙ sym (take-drop at payloadBytes ys)
 
 -- byte strings with equal places are equal, as far as the places go
 pub take-places : (n : ℕ) (xs ys : List ℕ) → ((i : ℕ) → i < n → placeOf xs i ≡ placeOf ys i) → take (payloadBytes * n) xs ≡ take (payloadBytes * n) ys

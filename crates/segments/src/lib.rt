@@ -40,8 +40,9 @@ pub fn check_segment(seg: &[u8]) -> Checked
     Checked::Fine
 }
 
-// 35 bytes from a place on, by value: so the copies to and from them are known to touch nothing else, and go in blocks.
-fn payload_at(bytes: &[u8], at: usize) -> [u8; 35]
+// 35 bytes from a place on, by value: so the copies to and from them are known to touch nothing else, and go in blocks. Internal, as the two
+// below: `slots` and `writer` call them (docs/DECISIONS.md, 7).
+pub fn payload_at(bytes: &[u8], at: usize) -> [u8; 35]
     requires { ⌜ at + payloadBytes ≤ length (now bytes) ⌝ }
     ensures { λ r. ⌜ r ≡ take payloadBytes (drop at (now (bytes .entry))) ⌝ }
 {
@@ -54,15 +55,23 @@ fn payload_at(bytes: &[u8], at: usize) -> [u8; 35]
     payload
 }
 
-// Puts 35 bytes from a place of one string at a place of another. Internal: `slots` and `writer` call it (docs/DECISIONS.md, 7).
-pub fn copy_payload(from: &[u8], at: usize, to: &mut [u8], place: usize)
-    requires { ⌜ (at + payloadBytes ≤ length (now from)) × (place + payloadBytes ≤ length (now to)) ⌝ }
-    ensures { λ _. ⌜ now (to .exit) ≡ sets (now (to .entry)) place (take payloadBytes (drop at (now (from .entry)))) ⌝ }
+// Puts 35 bytes at a place.
+pub fn put_payload(payload: [u8; 35], to: &mut [u8], place: usize)
+    requires { ⌜ place + payloadBytes ≤ length (now to) ⌝ }
+    ensures { λ _. ⌜ now (to .exit) ≡ sets (now (to .entry)) place payload ⌝ }
 {
-    let payload = payload_at(from, at);
     let mut i = 0;
     while i < PAYLOAD {
         to[place + i] = payload[i];
         i += 1;
     }
+}
+
+// Puts 35 bytes from a place of one string at a place of another.
+pub fn copy_payload(from: &[u8], at: usize, to: &mut [u8], place: usize)
+    requires { ⌜ (at + payloadBytes ≤ length (now from)) × (place + payloadBytes ≤ length (now to)) ⌝ }
+    ensures { λ _. ⌜ now (to .exit) ≡ sets (now (to .entry)) place (take payloadBytes (drop at (now (from .entry)))) ⌝ }
+{
+    let payload = payload_at(from, at);
+    put_payload(payload, to, place);
 }

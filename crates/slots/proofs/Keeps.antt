@@ -1,14 +1,13 @@
 -- A well formed slot stays well formed, whatever segment comes. Assumes nothing.
 use mathlib.Core.Path.{_≡_, refl, sym, ap, _∙_}
 use mathlib.Core.Bool.{Bool, true, false, not, _&&_, _||_, true≢false, and-eq-true-iff, or-true}
-use mathlib.Core.List.{List, [], _∷_, _++_, append-assoc}
+use mathlib.Core.List.{List}
 use Prim.Native.Nat.{ℕ, zero, suc, _+_, _*_, _^_, _≤_, _<_}
-use native.Mathlib.Nat.{zero-add, suc-add}
 use native.Mathlib.Omega.{arith}
 use borrow.Author.Tests.{ltb-true, ltb-false, lt-ltb, eq-eqb, ne-eqb, eqb-true, eqb-false, not-false}
 use lib.Dec.{eqb, ltb}
-use lib.ListN.{length, take, drop, set, length-drop}
-use lib.Seq.{sets, length-sets, sets-eq, take-nil, take-all, take-at, drop-at, length-take-le, take-set-le, drop-set-lt}
+use lib.ListN.{length, take, drop, length-drop}
+use lib.Seq.{sets, length-sets, take-all, take-at}
 use lib.Pow.{pow-pos}
 use Rattle.meaning.specs.declared.Kind.{Kind}
 use Rattle.meaning.specs.declared.Refusal.the-variants.{SegmentLength, SegmentType, ErrorBit, OtherMajor, NumberAboveLast}
@@ -22,8 +21,9 @@ use Rattle.segments.specs.Segment.{segmentBytes, headBytes, payloadBytes, mostS
 use Rattle.slots.specs.Slots.{zeros, allBelow, holds, including, emptySlot, spoiledSlot, noBytes, missingIn, numbersFit, bytesFit, slotFits, clashing, holding}
 use Rattle.slots.specs.Gathering.{Side, hold, chunkIn, kindChecks, judged, completed, placed, gathered}
 use Rattle.octets.proofs.Laws.{either, same-eq}
+use Rattle.octets.proofs.Stores.{take-sets, drop-sets, drop-stored}
 use Rattle.meaning.proofs.Checks.{check-passed}
-use Rattle.segments.proofs.Places.{take-places}
+use Rattle.segments.proofs.Places.{place-taken, take-places}
 use Rattle.slots.proofs.Bits.{holds-none, holds-including, holds-other, including-small}
 
 -- ---- tests below a number
@@ -40,35 +40,16 @@ below-all (suc n) f e i l =
 
 -- ---- a store of 35 bytes at a place: there they are, and the other places keep theirs
 
-take-sets : (vs l : List ℕ) (i n : ℕ) → n ≤ i → take n (sets l i vs) ≡ take n l
-take-sets [] l i n h = refl
-take-sets (v ∷ vs) l i n h = take-sets vs (set l i v) (suc i) n (omega arith) ∙ take-set-le n l i v h
-
-drop-sets : (vs l : List ℕ) (i n : ℕ) → i + length vs ≤ n → drop n (sets l i vs) ≡ drop n l
-drop-sets [] l i n h = refl
-drop-sets (v ∷ vs) l i n h = drop-sets vs (set l i v) (suc i) n (omega arith) ∙ drop-set-lt n l i v (omega arith)
-
-take-drop : (n m : ℕ) (l : List ℕ) → take m (drop n l) ≡ drop n (take (n + m) l)
-take-drop zero m l = ap (λ (k : ℕ). take k l) (sym (zero-add m))
-take-drop (suc n) m [] = rw (suc-add n m) (take-nil m)
-take-drop (suc n) m (x ∷ l) = rw (suc-add n m) (take-drop n m l)
-
 pub place-kept : (bytes vs : List ℕ) (i j : ℕ) → length vs ≡ payloadBytes → (i ≡ j → ⊥) → payloadBytes * i + payloadBytes ≤ length bytes → placeOf (sets bytes (payloadBytes * i) vs) j ≡ placeOf bytes j
 place-kept bytes vs i j e d h =
     either (ltb i j)
     (λ q. ap (take payloadBytes) (drop-sets vs bytes (payloadBytes * i) (payloadBytes * j) (omega (arith, ltb-true i j q))))
-    (λ q.
-    take-drop (payloadBytes * j) payloadBytes _
-    ∙ ap (drop (payloadBytes * j)) (take-sets vs bytes (payloadBytes * i) (payloadBytes * j + payloadBytes) (omega (arith, ltb-false i j q)))
-    ∙ sym (take-drop (payloadBytes * j) payloadBytes bytes))
+    (λ q. place-taken _ bytes j (take-sets vs bytes (payloadBytes * i) (payloadBytes * j + payloadBytes) (omega (arith, ltb-false i j q))))
 
 pub place-stored : (bytes vs : List ℕ) (i : ℕ) → length vs ≡ payloadBytes → payloadBytes * i + payloadBytes ≤ length bytes → placeOf (sets bytes (payloadBytes * i) vs) i ≡ vs
 place-stored bytes vs i e h =
     let at : ℕ = payloadBytes * i in
-    let rest : List ℕ = drop (at + length vs) bytes in
-    ap (λ (l : List ℕ). placeOf l i) (sets-eq vs bytes at (omega arith) ∙ append-assoc (take at bytes) vs rest)
-    ∙ ap (take payloadBytes) (drop-at (take at bytes) (vs ++ rest) at (length-take-le at bytes (omega arith)))
-    ∙ take-at vs rest payloadBytes e
+    ap (take payloadBytes) (drop-stored vs bytes at (at + payloadBytes) (omega arith) h) ∙ take-at vs (drop (at + payloadBytes) bytes) payloadBytes e
 
 -- ---- what a segment has that passed its checks, and what a well formed slot has
 

@@ -1,15 +1,15 @@
 -- Laws of the slots' definitions in the code's own terms. Assumes nothing.
 use mathlib.Core.Path.{_≡_, refl, sym, ap, ap₂, _∙_}
 use mathlib.Core.Bool.{Bool, true, false, _&&_, and-true, and-false, true≢false}
-use mathlib.Core.List.{List}
+use mathlib.Core.List.{List, _++_, append-nil}
 use Prim.Native.Nat.{ℕ, zero, suc, _+_, _-_, _*_, _/_, _%_, _^_, _≤_, _<_}
 use native.Mathlib.Nat.{one-mul, add-zero, add-assoc, div-lt-iff-lt-mul}
 use native.Mathlib.Numerals.{add-one}
 use native.Mathlib.Omega.{arith}
 use borrow.Author.Tests.{lt-ltb, le-ltb, ltb-true, ltb-false, eq-eqb, ne-eqb, eqb-true}
 use lib.Dec.{lit<, lit≤, eqb, ltb}
-use lib.ListN.{length, getD, take, drop}
-use lib.Seq.{ext-getD}
+use lib.ListN.{length, getD, take, drop, set, length-replicate, drop-of-length-le}
+use lib.Seq.{ext-getD, sets, sets-eq}
 use lib.Pow.{pow-pos, shl-exact}
 use Rattle.meaning.specs.Sizes.{longestChunk}
 use Rattle.slots.specs.declared.Slot.{Slot}
@@ -177,3 +177,28 @@ module _ (s : Slot) (bytes : List ℕ) {n : Bool} (long : length bytes ≡ longe
 
   pub slot-unfit : n ≡ false → n ≡ slotFits s bytes
   slot-unfit e = e ∙ fits-both false e
+
+pub slot-long : (s : Slot) (bytes : List ℕ) → (length bytes ≡ longestChunk → ⊥) → false ≡ slotFits s bytes
+unfolding slotFits
+slot-long s bytes h = simp (ne-eqb _ _ h)
+
+-- ---- zeros, byte by byte: what is left of n of them, put at the place that the code has come to
+
+pub wiped-all : (l : List ℕ) → sets l 0 (zeros (length l - 0)) ≡ zeros (length l)
+wiped-all l =
+    let n = length-replicate {A = ℕ} (length l) 0 in
+    let e : length l - 0 ≡ length l = omega arith in
+    ap (λ (m : ℕ). sets l 0 (zeros m)) e
+    ∙ sets-eq (zeros (length l)) l 0 (omega (arith, n))
+    ∙ ap (λ (r : List ℕ). zeros (length l) ++ r) (drop-of-length-le l {i = 0 + length (zeros (length l))} (omega (arith, n)))
+    ∙ append-nil (zeros (length l))
+
+pub wiped-next : (l : List ℕ) (n i : ℕ) → i < n → sets (set l i 0) (i + 1) (zeros (n - (i + 1))) ≡ sets l i (zeros (n - i))
+wiped-next l n i h =
+    let e : n - i ≡ suc (n - (i + 1)) = omega arith in
+    rw (e, add-one i)
+
+pub wiped-done : (l : List ℕ) (n i : ℕ) → n ≤ i → sets l i (zeros (n - i)) ≡ l
+wiped-done l n i h =
+    let e : n - i ≡ 0 = omega arith in
+    rw e

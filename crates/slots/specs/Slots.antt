@@ -53,7 +53,7 @@ numbersFit s =
 abbrev pub bytesFit : ℕ → List ℕ → Bool
 bytesFit held bytes = allBelow mostSegments (λ i. holds held i || same (placeOf bytes i) (zeros payloadBytes))
 
--- a slot is well formed; that it has 560 bytes is so by its type
+-- a slot is well formed; that it has 560 bytes is so in every desk, by the type of the desk's
 unfoldable pub slotFits : Slot → List ℕ → Bool
 slotFits s bytes = eqb (length bytes) longestChunk && (numbersFit s && bytesFit (s .held) bytes)
 

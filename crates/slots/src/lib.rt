@@ -8,7 +8,7 @@ use segments::HEAD;
 use segments::MOST_SEGMENTS;
 use segments::PAYLOAD;
 ghost use mathlib.Core.Path.{_≡_};
-ghost use mathlib.Core.Bool.{true, false};
+ghost use mathlib.Core.Bool.{true, cond};
 ghost use Prim.Native.Nat.{_+_, _*_, _^_, _≤_, _<_};
 ghost use lib.ListN.{length, take, drop};
 ghost use lib.Seq.{sets};
@@ -16,7 +16,7 @@ ghost use lib.Count.{ones as Count·ones};
 ghost use Rattle.meaning.specs.Sizes.{longestListing, longestChunk};
 ghost use Rattle.segments.specs.Segment.{segmentBytes, payloadBytes, mostSegments, segmentChecks, payloadIn};
 ghost use Rattle.octets.specs.Same.{same as Same·same};
-ghost use Rattle.slots.specs.Slots.{noBytes, holds as Slots·holds, missingIn, numbersFit, bytesFit, slotFits, clashing};
+ghost use Rattle.slots.specs.Slots.{zeros, noBytes, holds as Slots·holds, missingIn, numbersFit, bytesFit, slotFits, clashing};
 ghost use Rattle.slots.specs.Gathering.{side, outcome, gathered, completed};
 ghost use Rattle.slots.specs.Words.{eight};
 
@@ -69,7 +69,8 @@ fn ones(held: u16) -> u8
     let b = (held / 16 % 16) as usize;
     let c = (held / 256 % 16) as usize;
     let d = (held / 4096) as usize;
-    ONES[a] + ONES[b] + ONES[c] + ONES[d]
+    let table = ONES;
+    table[a] + table[b] + table[c] + table[d]
 }
 
 // How many segments are missing, of a slot that holds none above its last number.
@@ -126,26 +127,36 @@ fn store(bytes: &mut [u8], at: usize, seg: &[u8])
 
 // ---- slots
 
+fn wipe(bytes: &mut [u8])
+    ensures { λ _. ⌜ now (bytes .exit) ≡ zeros (length (now (bytes .entry))) ⌝ }
+{
+    let mut i = 0;
+    while i < bytes.len() {
+        bytes[i] = 0;
+        i += 1;
+    }
+}
+
 // Clears the bytes of a slot; one that holds nothing has none. Internal.
-pub fn clear(slot: Slot, bytes: &mut [u8; 560])
+pub fn clear(slot: Slot, bytes: &mut [u8])
     requires { ⌜ slotFits slot (now bytes) ≡ true ⌝ }
     ensures { λ _. ⌜ now (bytes .exit) ≡ noBytes ⌝ }
 {
     if slot.held != 0 {
-        *bytes = [0u8; LONGEST_CHUNK];
+        wipe(bytes);
     }
 }
 
 // Whether every place that is not held is all zeros.
-fn bytes_fit(held: u16, bytes: &[u8; 560]) -> bool
+fn bytes_fit(held: u16, bytes: &[u8]) -> bool
+    requires { ⌜ length (now bytes) ≡ longestChunk ⌝ }
     ensures { λ r. ⌜ r ≡ bytesFit held (now (bytes .entry)) ⌝ }
 {
-    let all: &[u8] = bytes;
     let none: &[u8] = &[0u8; PAYLOAD];
     let mut fits = true;
     let mut place = 0u8;
     while place < MOST_SEGMENTS {
-        fits = fits && (holds(held, place) || same(all, PAYLOAD * place as usize, none, 0));
+        fits = fits && (holds(held, place) || same(bytes, PAYLOAD * place as usize, none, 0));
         place += 1;
     }
     fits
@@ -167,11 +178,12 @@ fn numbers_fit(slot: Slot) -> bool
 }
 
 // Whether a slot is well formed.
-pub fn slot_fits(slot: Slot, bytes: &[u8; 560]) -> bool
+pub fn slot_fits(slot: Slot, bytes: &[u8]) -> bool
     ensures { λ r. ⌜ r ≡ slotFits slot (now (bytes .entry)) ⌝ }
 {
-    // as a slice the array tells its length
-    let all: &[u8] = bytes;
+    if bytes.len() != LONGEST_CHUNK {
+        return false;
+    }
     numbers_fit(slot) && bytes_fit(slot.held, bytes)
 }
 
@@ -219,13 +231,42 @@ fn complete(kind: Kind, slot: Slot, bytes: &[u8], out: &mut [u8]) -> Answer
     }
 }
 
-// A segment of the kind, that passed the checks on itself, comes to the slot of its kind.
-pub fn gather(kind: Kind, slot: Slot, bytes: &mut [u8; 560], seg: &[u8], out: &mut [u8]) -> Gathered
-    requires { ⌜ (slotFits slot (now bytes) ≡ true) × (segmentChecks (now seg) ≡ Checked.Fine) × (longestListing ≤ length (now out)) ⌝ }
-    ensures { λ r. ⌜ outcome (r .answer) (side (r .slot) (now (bytes .exit)) (now (out .exit))) ≡ gathered kind (now (seg .entry)) (side slot (now (bytes .entry)) (now (out .entry))) ⌝ }
+// The same, to the first of two buffers or the second.
+fn complete_to(
+    one: bool,
+    kind: Kind,
+    slot: Slot,
+    bytes: &[u8],
+    first: &mut [u8],
+    second: &mut [u8],
+) -> Answer
+    requires { ⌜ (length (now bytes) ≡ longestChunk) × (slot .last < mostSegments) × (longestListing ≤ length (now first)) × (longestListing ≤ length (now second)) ⌝ }
+    ensures { λ r. ⌜ outcome r (side slot (now (bytes .entry)) (cond one (now (first .exit)) (now (second .exit)))) ≡ completed kind (side slot (now (bytes .entry)) (cond one (now (first .entry)) (now (second .entry)))) ⌝ }
+    ensures { λ _. ⌜ cond one (now (second .exit)) (now (first .exit)) ≡ cond one (now (second .entry)) (now (first .entry)) ⌝ }
+{
+    if one {
+        complete(kind, slot, bytes, first)
+    } else {
+        complete(kind, slot, bytes, second)
+    }
+}
+
+// A segment of the kind, that passed the checks on itself, comes to the slot of its kind; its buffer is the first of the two or the second.
+pub fn gather(
+    kind: Kind,
+    slot: Slot,
+    bytes: &mut [u8],
+    seg: &[u8],
+    one: bool,
+    first: &mut [u8],
+    second: &mut [u8],
+) -> Gathered
+    requires { ⌜ (slotFits slot (now bytes) ≡ true) × (segmentChecks (now seg) ≡ Checked.Fine) × (longestListing ≤ length (now first)) × (longestListing ≤ length (now second)) ⌝ }
+    ensures { λ r. ⌜ outcome (r .answer) (side (r .slot) (now (bytes .exit)) (cond one (now (first .exit)) (now (second .exit)))) ≡ gathered kind (now (seg .entry)) (side slot (now (bytes .entry)) (cond one (now (first .entry)) (now (second .entry)))) ⌝ }
+    ensures { λ _. ⌜ cond one (now (second .exit)) (now (first .exit)) ≡ cond one (now (second .entry)) (now (first .entry)) ⌝ }
 {
     if clashes(slot, bytes, seg) {
-        *bytes = [0u8; LONGEST_CHUNK];
+        clear(slot, bytes);
         return Gathered {
             slot: Slot {
                 last: 0,
@@ -255,7 +296,7 @@ pub fn gather(kind: Kind, slot: Slot, bytes: &mut [u8; 560], seg: &[u8], out: &m
             answer: Answer::Missing(left),
         };
     }
-    let answer = complete(kind, more, bytes, out);
+    let answer = complete_to(one, kind, more, bytes, first, second);
     Gathered {
         slot: more,
         answer: answer,

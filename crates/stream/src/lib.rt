@@ -95,8 +95,7 @@ fn print_last(block: &[u8], at: usize, have: usize, out: &mut [u8], to: i32)
 // Prints the transcript of a log, from a well formed desk whose bytes are lent in place.
 fn run(
     marks: Marks,
-    this: &mut [u8; 560],
-    next: &mut [u8; 560],
+    bytes: &mut [u8],
     first: &mut [u8],
     second: &mut [u8],
     block: &mut [u8],
@@ -104,7 +103,7 @@ fn run(
     from: i32,
     to: i32,
 )
-    requires { ⌜ Ready (state (Desks·desk marks (now this) (now next)) (now first) (now second)) ⌝ }
+    requires { ⌜ Ready (state (Desks·desk marks (now bytes)) (now first) (now second)) ⌝ }
     requires { ⌜ longestLines ≤ length (now out) ⌝ }
 {
     let mut m = marks;
@@ -113,7 +112,7 @@ fn run(
     let mut turns = u64::MAX;
     while turns > 0 {
         turns -= 1;
-        let f = lines::fill(m, this, next, first, second, &block[at..have], out);
+        let f = lines::fill(m, bytes, first, second, &block[at..have], out);
         m = f.marks;
         let wrote = f.wrote;
         let read = f.read;
@@ -134,15 +133,13 @@ fn run(
 pub fn copy(from: i32, to: i32, block: &mut [u8]) {
     let fresh = Desk::fresh();
     let marks = fresh.marks;
-    let mut this = fresh.this;
-    let mut next = fresh.next;
+    let mut bytes = fresh.bytes;
     let mut first = [0u8; LONGEST_LISTING];
     let mut second = [0u8; LONGEST_LISTING];
     let mut out = io::large_buffer();
     run(
         marks,
-        &mut this,
-        &mut next,
+        &mut bytes,
         &mut first,
         &mut second,
         block,

@@ -4,27 +4,31 @@ use mathlib.Core.Bool.{Bool, true, false, _&&_, not, and-true}
 use mathlib.Core.List.{List, [], _∷_}
 use Prim.Native.Nat.{ℕ, zero, suc, _+_, _-_, _*_, _≤_, _<_}
 use native.Mathlib.Omega.{arith}
-use borrow.Author.Tests.{not-false, lt-leb}
+use borrow.Author.Tests.{not-false, le-leb}
 use lib.Dec.{leb, eqb}
 use lib.ListN.{length, getD, drop, length-drop}
 use lib.Seq.{getD-drop, drop-drop}
-use Rattle.octets.proofs.Laws.{getD-there}
+use Rattle.octets.proofs.Laws.{either, getD-there}
 use Rattle.meaning.specs.Sizes.{markBytes, enBytes, svBytes, mostFlags, mostChannel, mostMulti, mostStatus, mostSP}
 use Rattle.meaning.specs.Listing.{markEN, markSV}
-use Rattle.meaning.specs.Listed.{stands, svFits, servicesFit, enFits, ensemblesFit}
-use Rattle.meaning.proofs.Counts.{leb-and, sv-room, services-room, en-room}
+use Rattle.meaning.specs.Listed.{marked, stands, svFits, servicesFit, enFits, ensemblesFit}
+use Rattle.meaning.proofs.Counts.{leb-and, services-room, en-room}
 
 -- ---- the tests on a record, one by one
 
--- it has its n bytes and the mark a b
-stands-tests : (n a b : ℕ) (zs : List ℕ) → markBytes ≤ n → stands (a ∷ b ∷ []) n zs ≡ (leb n (length zs) && (eqb (getD zs 0 0) a && eqb (getD zs 1 0) b))
-stands-tests n a b [] h = simp (lt-leb n 0 (omega arith))
-stands-tests n a b (x ∷ []) h = simp (lt-leb n 1 (omega arith))
-stands-tests n a b (x ∷ y ∷ zs) h = simp and-true
+-- its mark is a b
+marked-tests : (a b : ℕ) (zs : List ℕ) → markBytes ≤ length zs → marked (a ∷ b ∷ []) zs ≡ (eqb (getD zs 0 0) a && eqb (getD zs 1 0) b)
+marked-tests a b [] h = absurd (omega arith)
+marked-tests a b (x ∷ []) h = absurd (omega arith)
+marked-tests a b (x ∷ y ∷ zs) h = simp and-true
 
 module _ (xs : List ℕ) (at : ℕ) where
-  pub stands-at : (n a b : ℕ) → markBytes ≤ n → stands (a ∷ b ∷ []) n (drop at xs) ≡ (leb n (length xs - at) && (eqb (getD xs at 0) a && eqb (getD xs (at + 1) 0) b))
-  stands-at n a b h = stands-tests n a b (drop at xs) h ∙ simp (length-drop at xs, getD-there xs at, getD-drop at xs 1 0)
+  pub marked-at : (a b : ℕ) → at + markBytes ≤ length xs → marked (a ∷ b ∷ []) (drop at xs) ≡ (eqb (getD xs at 0) a && eqb (getD xs (at + 1) 0) b)
+  marked-at a b h = marked-tests a b (drop at xs) (omega (arith, length-drop at xs)) ∙ simp (getD-there xs at, getD-drop at xs 1 0)
+
+  -- it has its n bytes too
+  pub stands-at : (mark : List ℕ) (n : ℕ) → stands mark n (drop at xs) ≡ (leb n (length xs - at) && marked mark (drop at xs))
+  stands-at mark n = ap (λ (m : ℕ). leb n m && marked mark (drop at xs)) (length-drop at xs)
 
   -- a record that a test found there
   abbrev pub Found : List ℕ → ℕ → Type 0
@@ -35,18 +39,17 @@ module _ (xs : List ℕ) (at : ℕ) where
       let is : stands mark n (drop at xs) ≡ true = sym e ∙ not-false r h in
       (omega (arith, leb-and n (length (drop at xs)) is .0, length-drop at xs), is)
 
-  pub sv-tests : svFits (drop at xs) ≡ (stands markSV svBytes (drop at xs) && (leb (getD xs (at + 4) 0) mostMulti && (leb (getD xs (at + 5) 0) mostStatus && leb (getD xs (at + 6) 0) mostSP)))
+  -- a service's, where there is room for one
+  pub sv-tests : at + svBytes ≤ length xs → svFits (drop at xs) ≡ (marked markSV (drop at xs) && (leb (getD xs (at + 4) 0) mostMulti && (leb (getD xs (at + 5) 0) mostStatus && leb (getD xs (at + 6) 0) mostSP)))
   unfolding svFits
-  sv-tests = simp (getD-drop at xs 4 0, getD-drop at xs 5 0, getD-drop at xs 6 0)
+  sv-tests room =
+      simp (getD-drop at xs 4 0, getD-drop at xs 5 0, getD-drop at xs 6 0, stands-at markSV svBytes, le-leb svBytes (length xs - at) (omega arith))
 
   pub en-tests : enFits (drop at xs) ≡ (stands markEN enBytes (drop at xs) && (leb (getD xs (at + 3) 0) mostFlags && leb (getD xs (at + 4) 0) mostChannel))
   unfolding enFits
   en-tests = simp (getD-drop at xs 3 0, getD-drop at xs 4 0)
 
   -- a record that fits is there
-  pub sv-there : svFits (drop at xs) ≡ true → at + svBytes ≤ length xs
-  sv-there h = omega (arith, sv-room (drop at xs) h, length-drop at xs)
-
   pub en-there : enFits (drop at xs) ≡ true → at + enBytes ≤ length xs
   en-there h = omega (arith, en-room (drop at xs) h, length-drop at xs)
 
@@ -54,6 +57,10 @@ module _ (xs : List ℕ) (at : ℕ) where
 
   pub services-there : (n : ℕ) → at ≤ length xs → servicesFit n (drop at xs) ≡ true → at + svBytes * n ≤ length xs
   services-there n inl h = omega (arith, services-room n (drop at xs) h, length-drop at xs)
+
+  pub services-short : (n : ℕ) → length xs - at < svBytes * n → servicesFit n (drop at xs) ≡ false
+  services-short n short =
+      either (servicesFit n (drop at xs)) (λ h. absurd (omega (arith, services-room n (drop at xs) h, length-drop at xs))) (λ h. h)
 
   pub services-none : (n : ℕ) → n ≤ 0 → servicesFit n (drop at xs) ≡ true
   unfolding servicesFit

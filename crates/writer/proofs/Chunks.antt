@@ -1,19 +1,23 @@
 -- The bytes that are put for a listing are those of the chunk of its list. Assumes nothing.
-use mathlib.Core.Path.{_≡_, refl, sym, ap₂, _∙_}
+use mathlib.Core.Path.{_≡_, refl, sym, ap, ap₂, _∙_}
+use mathlib.Core.Bool.{true}
 use mathlib.Core.List.{List, [], _∷_, _++_, map, flatMap, append-nil}
 use Prim.Native.Nat.{ℕ, zero, suc, _+_, _*_}
 use native.Mathlib.Nat.{div-div-eq-div-mul}
 use native.Mathlib.Omega.{arith}
-use lib.ListN.{getD, drop, length-map}
+use lib.ListN.{length, getD, drop, length-map}
 use Rattle.octets.specs.Bits.{Bytes}
 use Rattle.octets.proofs.Laws.{high-word, low-word, getD-byte, bytes-drop}
 use Rattle.meaning.specs.declared.Kind.{Kind}
 use Rattle.meaning.specs.Sizes.{tsBytes, enBytes, svBytes}
 use Rattle.meaning.specs.Lists.{currentOf}
-use Rattle.meaning.specs.Listed.{serviceSaid, servicesSaid, countSaid, afterEN, afterServices, ensembleSaid, ensemblesSaid, listSaid}
-use Rattle.meaning.specs.Plain.{plainService, plainEnsemble, plain}
+use Rattle.meaning.specs.Layout.{wire}
+use Rattle.meaning.specs.Listed.{serviceSaid, servicesSaid, countSaid, afterEN, afterServices, ensembleSaid, ensemblesSaid, listingFits, listSaid}
+use Rattle.meaning.specs.Plain.{plainService, plainEnsemble, plain, plainLength}
 use Rattle.meaning.proofs.Counts.{length-servicesSaid, length-ensemblesSaid}
-use Rattle.meaning.proofs.Rows.{serviceThird, ensembleThird, chunkSecond, serviceRow, ensembleRow, chunkRow}
+use Rattle.meaning.proofs.Rows.{serviceThird, ensembleThird, chunkSecond, serviceRow, ensembleRow, chunkRow, wire-row}
+use Rattle.meaning.proofs.Listed.{said-fitting}
+use Rattle.meaning.proofs.Plain.{plain-held, length-plain}
 use Rattle.writer.specs.Put.{servicePut, servicesPut, ensemblePut, ensemblesPut, chunkPut}
 
 service-put : (zs : List ℕ) → Bytes zs → servicePut zs ≡ serviceRow (plainService (serviceSaid zs))
@@ -47,7 +51,7 @@ ensembles-put (suc n) ys b =
     ap₂ _++_ (ensemble-put ys b)
     (ensembles-put n (afterServices ys) (bytes-drop (svBytes * countSaid ys) (afterEN ys) (bytes-drop enBytes ys b)))
 
-pub chunk-put : (k : Kind) (xs : List ℕ) → Bytes xs → chunkPut k xs ≡ chunkRow (plain k (listSaid xs))
+chunk-put : (k : Kind) (xs : List ℕ) → Bytes xs → chunkPut k xs ≡ chunkRow (plain k (listSaid xs))
 unfolding chunkPut chunkRow listSaid
 chunk-put k xs b =
     let n : ℕ = getD xs 4 0 in
@@ -58,3 +62,11 @@ chunk-put k xs b =
     let count = sym (length-map (ensemblesSaid n (drop tsBytes xs)) plainEnsemble ∙ length-ensemblesSaid n (drop tsBytes xs)) in
     let rest : ensemblesPut n (drop tsBytes xs) ≡ rows ++ [] = ensembles-put n (drop tsBytes xs) (bytes-drop tsBytes xs b) ∙ sym (append-nil rows) in
     λ i. 0 ∷ second i ∷ third i ∷ fourth i ∷ count i ∷ rest i
+
+-- of a listing that is well formed
+module _ (k : Kind) (xs : List ℕ) (bytes : Bytes xs) (fits : listingFits xs ≡ true) where
+  pub put-wire : chunkPut k xs ≡ wire (plain k (listSaid xs))
+  put-wire = chunk-put k xs bytes ∙ sym (wire-row (plain k (listSaid xs)) (plain-held k (listSaid xs) (said-fitting xs bytes fits)))
+
+  pub length-put : length (chunkPut k xs) ≡ plainLength (listSaid xs)
+  length-put = ap length put-wire ∙ length-plain k (listSaid xs) (said-fitting xs bytes fits)

@@ -3,10 +3,9 @@ use mathlib.Core.Path.{_≡_, refl, sym, ap, ap₂, _∙_, subst}
 use mathlib.Core.Bool.{true}
 use mathlib.Core.List.{List, _++_}
 use Prim.Native.Nat.{ℕ, _+_, _-_, _*_, _%_, _≤_}
-use native.Mathlib.Nat.{zero-add}
 use native.Mathlib.Omega.{arith}
 use lib.ListN.{length, getD, drop}
-use lib.Seq.{sets, sets-eq}
+use lib.Seq.{sets}
 use Rattle.octets.specs.Bits.{Bytes}
 use Rattle.octets.specs.Each.{Each}
 use Rattle.octets.proofs.Laws.{bytes-bytesOf}
@@ -18,17 +17,16 @@ use Rattle.meaning.specs.Layout.{Chunk, chunkFields, wire}
 use Rattle.meaning.specs.Listed.{listingFits, listSaid}
 use Rattle.meaning.specs.Plain.{plain, Fits, plainLength}
 use Rattle.meaning.specs.Reading.{majorIn}
-use Rattle.meaning.proofs.Rows.{wire-row}
 use Rattle.meaning.proofs.Listed.{said-fitting}
-use Rattle.meaning.proofs.Plain.{plain-held, length-plain}
-use Rattle.segments.specs.Segment.{segmentBytes}
+use Rattle.meaning.proofs.Plain.{length-plain}
+use Rattle.segments.specs.Segment.{segmentBytes, payloadBytes}
 use Rattle.segments.specs.Cut.{segmentsFor, joined}
 use Rattle.segments.proofs.Cut.{length-cut, cut-whole}
 use Rattle.writer.specs.declared.Written.the-variants.{Segments}
 use Rattle.writer.specs.Put.{chunkPut, segmentsPut}
 use Rattle.writer.specs.Writing.{shortestOutput, plainly, segmentsOf, WriteSays}
-use Rattle.writer.proofs.Chunks.{chunk-put}
-use Rattle.writer.proofs.Sent.{stuffing, plainly-suits, put, cut-put, length-joined}
+use Rattle.writer.proofs.Chunks.{put-wire}
+use Rattle.writer.proofs.Sent.{stuffing, plainly-suits, cut-put}
 use Rattle.writer.proofs.Answers.{checks-written, says-written}
 
 bytes-wire : (c : Chunk) → Bytes (wire c)
@@ -67,14 +65,8 @@ module _ (k : Kind) (xs before : List ℕ) (bytes : Bytes xs) (space : shortestO
   held : Fits l
   held = said-fitting xs bytes fits
 
-  pub put-wire : chunkPut k xs ≡ wire (plain k (listSaid xs))
-  put-wire = chunk-put k xs bytes ∙ sym (wire-row (plain k l) (plain-held k l held))
-
-  pub length-put : length (chunkPut k xs) ≡ plainLength (listSaid xs)
-  length-put = ap length put-wire ∙ length-plain k l held
-
   wire-kind : (majorIn w ≡ 0) × (getD w 1 0 % 2 ≡ currentOf k)
-  wire-kind = subst (λ (t : List ℕ). (majorIn t ≡ 0) × (getD t 1 0 % 2 ≡ currentOf k)) put-wire (chunk-kind k xs)
+  wire-kind = subst (λ (t : List ℕ). (majorIn t ≡ 0) × (getD t 1 0 % 2 ≡ currentOf k)) (put-wire k xs bytes fits) (chunk-kind k xs)
 
   wire-room : length w ≤ longestChunk
   wire-room = omega (arith, length-plain k l held)
@@ -82,28 +74,26 @@ module _ (k : Kind) (xs before : List ℕ) (bytes : Bytes xs) (space : shortestO
   abbrev n : ℕ
   n = segmentsFor (length w)
 
-  sent : segmentsPut k (n - 1) (sets (stuffing longestChunk) 0 w) 0 n ≡ joined (segmentsOf k l)
-  unfolding segmentsOf
-  sent = cut-put k w wire-room (bytes-wire (plain k l)) (wire-kind .0) (wire-kind .1)
+  -- a chunk put over the stuffing of the last of m pieces
+  abbrev over : ℕ → List ℕ → List ℕ
+  over m t = sets (sets before (payloadBytes * (m - 1)) (stuffing payloadBytes)) 0 t
 
-  length-sent : length (joined (segmentsOf k l)) ≡ segmentBytes * n
+  sent : sets (over n w) 0 (segmentsPut k (n - 1) (over n w) 0 n) ≡ joined (segmentsOf k l) ++ drop (segmentBytes * n) before
   unfolding segmentsOf
-  length-sent = length-joined k w wire-room (bytes-wire (plain k l)) (wire-kind .0) (wire-kind .1)
+  sent = cut-put k w before (omega (arith, length-plain k l held)) wire-room space (bytes-wire (plain k l)) (wire-kind .0) (wire-kind .1)
 
-  -- what the code has put: m segments of the chunk over stuffing
-  pub written-says : (m : ℕ) (array put after : List ℕ) → m ≡ segmentsFor (plainLength (listSaid xs)) → put ≡ sets array 0 (chunkPut k xs) → array ≡ stuffing longestChunk → after ≡ sets before 0 (segmentsPut k (m - 1) put 0 (m - 1 + 1)) → WriteSays xs k before (Segments m) after
-  written-says m array put after e chunk blank stored =
+  -- what the code has put: the stuffing, the chunk, and m segments
+  pub written-says : (m : ℕ) (fill put after : List ℕ) → m ≡ segmentsFor (plainLength (listSaid xs)) → fill ≡ sets before (payloadBytes * (m - 1)) (stuffing payloadBytes) → put ≡ sets fill 0 (chunkPut k xs) → after ≡ sets put 0 (segmentsPut k (m - 1) put 0 (m - 1 + 1)) → WriteSays xs k before (Segments m) after
+  written-says m fill put after e stuffed chunk stored =
       let same : m ≡ n = e ∙ sym (ap segmentsFor (length-plain k l held)) in
       let s = segmentsOf k l in
       let count : m ≡ length s = e ∙ sym (length-segmentsOf k l held) in
-      let fit : 0 + length (joined s) ≤ length before = omega (arith, length-sent) in
       let some : m - 1 + 1 ≡ m = omega arith in
       let left : after ≡ joined s ++ drop (segmentBytes * length s) before =
       stored
-      ∙ ap₂ (λ (i : ℕ) (t : List ℕ). sets before 0 (segmentsPut k (m - 1) t 0 i)) some (chunk ∙ ap₂ (λ (s t : List ℕ). sets s 0 t) blank put-wire)
-      ∙ ap (λ (i : ℕ). sets before 0 (segmentsPut k (i - 1) (sets (stuffing longestChunk) 0 w) 0 i)) same
-      ∙ ap (sets before 0) sent
-      ∙ sets-eq (joined s) before 0 fit
-      ∙ ap (λ (i : ℕ). joined s ++ drop i before) (zero-add (length (joined s)) ∙ length-sent ∙ ap (λ (i : ℕ). segmentBytes * i) (sym same ∙ count)) in
+      ∙ ap₂ (λ (i : ℕ) (t : List ℕ). sets t 0 (segmentsPut k (m - 1) t 0 i)) some (chunk ∙ ap₂ (λ (s t : List ℕ). sets s 0 t) stuffed (put-wire k xs bytes fits))
+      ∙ ap (λ (i : ℕ). sets (over i w) 0 (segmentsPut k (i - 1) (over i w) 0 i)) same
+      ∙ sent
+      ∙ ap (λ (i : ℕ). joined s ++ drop (segmentBytes * i) before) (sym same ∙ count) in
       let says = says-written xs k before (checks-written xs before space fits room) in
       record { answers = ap Segments count ∙ says .answers; leaves = left ∙ says .leaves }

@@ -1,12 +1,13 @@
--- The segments that are put for a chunk, over an array of stuffing, are the chunk cut as the writer chooses. Assumes nothing.
+-- The segments that are put for a chunk, in an output whose last piece was stuffing, are the chunk cut as the writer chooses. Assumes nothing.
 use mathlib.Core.Path.{_≡_, refl, sym, ap, ap₂, _∙_}
 use mathlib.Core.List.{List, _∷_, _++_, map, flatMap, append-assoc}
 use Prim.Native.Nat.{ℕ, zero, suc, _+_, _-_, _*_, _%_, _≤_, _<_}
 use native.Mathlib.Nat.{zero-add}
 use native.Mathlib.Omega.{arith}
 use lib.ListN.{length, getD, drop, replicate, length-append, length-replicate, replicate-append-replicate}
-use lib.Seq.{drop-at, sets, sets-eq}
+use lib.Seq.{drop-at, drop-append-le, drop-drop, sets, length-sets}
 use Rattle.octets.specs.Bits.{Bytes}
+use Rattle.octets.proofs.Stores.{drop-sets, drop-stored}
 use Rattle.meaning.specs.declared.Kind.{Kind}
 use Rattle.meaning.specs.Sizes.{longestChunk}
 use Rattle.meaning.specs.Lists.{currentOf}
@@ -17,7 +18,7 @@ use Rattle.segments.proofs.Heads.{headFirst}
 use Rattle.segments.proofs.Cut.{piece-bytes, piece-read}
 use Rattle.segments.proofs.Places.{place-within}
 use Rattle.writer.specs.Put.{segmentPut, segmentsPut}
-use Rattle.writer.specs.Writing.{plainly}
+use Rattle.writer.specs.Writing.{shortestOutput, plainly}
 
 -- ---- stuffing
 
@@ -35,14 +36,20 @@ drop-stuffing : (a b : ℕ) → drop a (stuffing (a + b)) ≡ stuffing b
 drop-stuffing a b =
     ap (drop a) (sym (replicate-append-replicate a b 0xFF)) ∙ drop-at (stuffing a) (stuffing b) a (length-stuffing a)
 
--- a byte string put over stuffing has stuffing behind it
-over-stuffing : (xs : List ℕ) (n a b : ℕ) → n ≡ length xs + (a + b) → sets (stuffing n) 0 xs ≡ (xs ++ stuffing a) ++ stuffing b
-over-stuffing xs n a b e =
-    let fits : 0 + length xs ≤ length (stuffing n) = omega (arith, length-stuffing n) in
-    sets-eq xs (stuffing n) 0 fits
-    ∙ ap₂ (λ (i m : ℕ). xs ++ drop i (stuffing m)) (zero-add (length xs)) e
-    ∙ ap (λ (t : List ℕ). xs ++ t) (drop-stuffing (length xs) (a + b) ∙ sym (replicate-append-replicate a b 0xFF))
-    ∙ sym (append-assoc xs (stuffing a) (stuffing b))
+-- a byte string put over m bytes of stuffing that end behind it: stuffing follows it, then what was there
+over-stuffing : (xs l : List ℕ) (i a b m : ℕ) → length xs ≡ i + a → m ≡ a + b → i + m ≤ length l → sets (sets l i (stuffing m)) 0 xs ≡ (xs ++ stuffing b) ++ drop (i + m) l
+over-stuffing xs l i a b m e f room =
+    let fill : List ℕ = sets l i (stuffing m) in
+    let rest : List ℕ = drop (i + m) l in
+    let inside : a ≤ length (stuffing m) = omega (arith, length-stuffing m) in
+    drop-stored xs fill 0 (i + a) (sym (zero-add (length xs) ∙ e)) (omega (arith, length-sets l i (stuffing m)))
+    ∙ ap (λ (t : List ℕ). xs ++ t)
+    (sym (drop-drop a i fill)
+    ∙ ap (drop a) (drop-stored (stuffing m) l i (i + m) (ap (λ (n : ℕ). i + n) (sym (length-stuffing m))) room)
+    ∙ drop-append-le a (stuffing m) rest inside
+    ∙ ap (λ (n : ℕ). drop a (stuffing n) ++ rest) f
+    ∙ ap (λ (t : List ℕ). t ++ rest) (drop-stuffing a b))
+    ∙ sym (append-assoc xs (stuffing b) rest)
 
 -- the writer's choice is one
 pub plainly-suits : (xs : List ℕ) → Suits xs (plainly (length xs))
@@ -56,30 +63,31 @@ plainly-suits xs =
       whole = length-append xs (stuffing more) ∙ omega (arith, length-stuffing more);
     }
 
-module _ (k : Kind) (xs : List ℕ) (room : length xs ≤ longestChunk) (bytes : Bytes xs) (major : majorIn xs ≡ 0) (kind : getD xs 1 0 % 2 ≡ currentOf k) where
+module _ (k : Kind) (xs before : List ℕ) (some : 0 < length xs) (room : length xs ≤ longestChunk) (space : shortestOutput ≤ length before) (bytes : Bytes xs) (major : majorIn xs ≡ 0) (kind : getD xs 1 0 % 2 ≡ currentOf k) where
   abbrev n : ℕ
   n = segmentsFor (length xs)
 
   abbrev c : Choice
   c = plainly (length xs)
 
-  -- the chunk with the writer's stuffing, and as it is put over an array of stuffing
+  -- the chunk with the writer's stuffing, and as it is put over the last piece
   abbrev whole : List ℕ
   whole = xs ++ c .fill
 
-  abbrev pub put : List ℕ
-  put = sets (stuffing longestChunk) 0 xs
+  abbrev put : List ℕ
+  put = sets (sets before (payloadBytes * (n - 1)) (stuffing payloadBytes)) 0 xs
 
-  put-whole : put ≡ whole ++ stuffing (longestChunk - payloadBytes * n)
+  abbrev rest : List ℕ
+  rest = drop (payloadBytes * (n - 1) + payloadBytes) before
+
+  put-whole : put ≡ whole ++ rest
   put-whole =
+      let at : ℕ = payloadBytes * (segmentsFor (length xs) - 1) in
       let more : ℕ = payloadBytes * segmentsFor (length xs) - length xs in
-      let rest : ℕ = longestChunk - payloadBytes * segmentsFor (length xs) in
-      over-stuffing xs longestChunk more rest (omega arith)
+      over-stuffing xs before at (length xs - at) more payloadBytes (omega arith) (omega arith) (omega arith)
 
   place-put : (i : ℕ) → i < n → placeOf put i ≡ placeOf whole i
-  place-put i h =
-      ap (λ (t : List ℕ). placeOf t i) put-whole
-      ∙ place-within whole (stuffing (longestChunk - payloadBytes * n)) i (omega (arith, plainly-suits xs .whole))
+  place-put i h = ap (λ (t : List ℕ). placeOf t i) put-whole ∙ place-within whole rest i (omega (arith, plainly-suits xs .whole))
 
   segment-put : (i : ℕ) → i < n → segmentPut k (n - 1) put i ≡ pieceOf xs c i
   segment-put i h =
@@ -99,9 +107,15 @@ module _ (k : Kind) (xs : List ℕ) (room : length xs ≤ longestChunk) (bytes :
       let rest : List ℕ = joined (map (pieceOf xs c) (upFrom (suc i) m)) in
       omega (arith, length-append piece rest, piece-read xs c bytes (plainly-suits xs) room i (omega arith) .0, length-segments (suc i) m (omega arith))
 
-  -- all of them
-  pub cut-put : segmentsPut k (n - 1) put 0 n ≡ joined (cut xs c)
-  cut-put = segments-put 0 n (omega arith)
-
-  pub length-joined : length (joined (cut xs c)) ≡ segmentBytes * n
+  length-joined : length (joined (cut xs c)) ≡ segmentBytes * n
   length-joined = length-segments 0 n (omega arith)
+
+  -- all of them, over the output
+  pub cut-put : sets put 0 (segmentsPut k (n - 1) put 0 n) ≡ joined (cut xs c) ++ drop (segmentBytes * n) before
+  cut-put =
+      let all : List ℕ = joined (cut xs c) in
+      let at : ℕ = payloadBytes * (n - 1) in
+      let fill : List ℕ = sets before at (stuffing payloadBytes) in
+      ap (sets put 0) (segments-put 0 n (omega arith))
+      ∙ drop-stored all put 0 (segmentBytes * n) (sym (zero-add (length all) ∙ length-joined)) (omega (arith, length-sets fill 0 xs, length-sets before at (stuffing payloadBytes)))
+      ∙ ap (λ (t : List ℕ). all ++ t) (drop-sets xs fill 0 (segmentBytes * n) (omega arith) ∙ drop-sets (stuffing payloadBytes) before at (segmentBytes * n) (omega (arith, length-stuffing payloadBytes)))

@@ -17,15 +17,15 @@ use segments::HEAD;
 use segments::PAYLOAD;
 use segments::SEGMENT;
 ghost use mathlib.Core.Path.{_≡_};
-ghost use mathlib.Core.Bool.{true};
+ghost use mathlib.Core.Bool.{true, cond};
 ghost use mathlib.Core.List.{[], _∷_};
 ghost use Prim.Native.Nat.{_+_, _*_, _≤_, _<_};
 ghost use lib.ListN.{length, drop};
 ghost use lib.Seq.{sets};
-ghost use Rattle.meaning.specs.Sizes.{ensembleBytes, serviceBytes, markBytes};
-ghost use Rattle.meaning.specs.Listed.{stands as Listed·stands, svFits, servicesFit, enFits, ensemblesFit, listingFits, countSaid, afterEN, listSaid};
+ghost use Rattle.meaning.specs.Sizes.{headerBytes, ensembleBytes, serviceBytes, svBytes, markBytes};
+ghost use Rattle.meaning.specs.Listed.{marked as Listed·marked, stands as Listed·stands, svFits, servicesFit, enFits, ensemblesFit, listingFits, countSaid, afterEN, listSaid};
 ghost use Rattle.meaning.specs.Plain.{plainLength};
-ghost use Rattle.segments.specs.Segment.{segmentBytes, payloadBytes, mostSegments};
+ghost use Rattle.segments.specs.Segment.{segmentBytes, mostSegments};
 ghost use Rattle.writer.specs.Put.{servicePut, servicesPut, ensemblePut, ensemblesPut, chunkPut, segmentPut, segmentsPut};
 ghost use Rattle.writer.specs.Writing.{WriteSays};
 
@@ -43,6 +43,17 @@ const STUFFING: u8 = 0xFF;
 
 // ---- the checks on a listing
 
+// Whether this mark is at a place of the listing, which has room for one there.
+fn marked(listing: &[u8], at: usize, first: u8, second: u8) -> bool
+    requires { ⌜ at + markBytes ≤ length (now listing) ⌝ }
+    ensures { λ r. ⌜ r ≡ Listed·marked (first ∷ second ∷ []) (drop at (now (listing .entry))) ⌝ }
+{
+    if listing[at] != first {
+        return false;
+    }
+    listing[at + 1] == second
+}
+
 // Whether a record of so many bytes with this mark stands at a place of the listing.
 fn stands(listing: &[u8], at: usize, size: usize, first: u8, second: u8) -> bool
     requires { ⌜ (at ≤ length (now listing)) × (markBytes ≤ size) ⌝ }
@@ -51,18 +62,15 @@ fn stands(listing: &[u8], at: usize, size: usize, first: u8, second: u8) -> bool
     if listing.len() - at < size {
         return false;
     }
-    if listing[at] != first {
-        return false;
-    }
-    listing[at + 1] == second
+    marked(listing, at, first, second)
 }
 
-// Whether a service's record stands at a place of the listing.
+// Whether a service's record stands at a place of the listing, which has room for one there.
 fn service_fits(listing: &[u8], at: usize) -> bool
-    requires { ⌜ at ≤ length (now listing) ⌝ }
+    requires { ⌜ at + svBytes ≤ length (now listing) ⌝ }
     ensures { λ r. ⌜ r ≡ svFits (drop at (now (listing .entry))) ⌝ }
 {
-    if !stands(listing, at, SV_RECORD, b'S', b'V') {
+    if !marked(listing, at, b'S', b'V') {
         return false;
     }
     if MOST_MULTI < listing[at + 4] {
@@ -75,10 +83,14 @@ fn service_fits(listing: &[u8], at: usize) -> bool
 }
 
 // Whether the records of count services stand from a place of the listing on.
-fn services_fit(listing: &[u8], from: usize, count: usize) -> bool
+fn services_fit(listing: &[u8], from: usize, count: u8) -> bool
     requires { ⌜ from ≤ length (now listing) ⌝ }
     ensures { λ r. ⌜ r ≡ servicesFit count (drop from (now (listing .entry))) ⌝ }
 {
+    // one test of the length for all of them
+    if listing.len() - from < SV_RECORD * count as usize {
+        return false;
+    }
     let mut at = from;
     let mut left = count;
     while 0 < left {
@@ -105,67 +117,61 @@ fn ensemble_fits(listing: &[u8], at: usize) -> bool
     listing[at + 4] <= MOST_CHANNEL
 }
 
-// Whether the records of count ensembles and their services stand from a place of the listing on, up to its end.
-fn ensembles_fit(listing: &[u8], from: usize, count: usize) -> bool
+// The length of a chunk with the count ensembles whose records stand, with their services', from a place of the listing on and up to its end;
+// 0 if they do not stand there.
+fn ensembles_length(listing: &[u8], from: usize, count: usize) -> usize
     requires { ⌜ from ≤ length (now listing) ⌝ }
-    ensures { λ r. ⌜ r ≡ ensemblesFit count (drop from (now (listing .entry))) ⌝ }
+    ensures { λ r. ⌜ r ≡ cond (ensemblesFit count (drop from (now (listing .entry)))) (headerBytes + length (ensemblesPut count (drop from (now (listing .entry))))) 0 ⌝ }
 {
     let mut at = from;
     let mut left = count;
+    let mut length = HEADER;
     while 0 < left {
         if !ensemble_fits(listing, at) {
-            return false;
+            return 0;
         }
-        let services = listing[at + 5] as usize;
+        let said = listing[at + 5];
         let inside = at + EN_RECORD;
-        if !services_fit(listing, inside, services) {
-            return false;
+        if !services_fit(listing, inside, said) {
+            return 0;
         }
+        let services = said as usize;
         at = inside + SV_RECORD * services;
+        length += ENSEMBLE + SERVICE * services;
         left -= 1;
     }
-    listing.len() - at == 0
+    if listing.len() != at {
+        return 0;
+    }
+    length
 }
 
-// Whether a listing is well formed.
-pub fn listing_fits(listing: &[u8]) -> bool
-    ensures { λ r. ⌜ r ≡ listingFits (now (listing .entry)) ⌝ }
+// The length of the chunk of a listing; 0 if the listing is not well formed.
+fn chunk_length(listing: &[u8]) -> usize
+    ensures { λ r. ⌜ r ≡ cond (listingFits (now (listing .entry))) (plainLength (listSaid (now (listing .entry)))) 0 ⌝ }
 {
     if !stands(listing, 0, TS_RECORD, b'T', b'S') {
-        return false;
-    }
-    ensembles_fit(listing, TS_RECORD, listing[4] as usize)
-}
-
-// How many bytes the chunk of a listing has, if it is well formed: its first record and its length tell the counts of all records.
-fn chunk_length(listing: &[u8]) -> usize
-    ensures { λ r. ⌜ (listingFits (now (listing .entry)) ≡ true → r ≡ plainLength (listSaid (now (listing .entry)))) ⌝ }
-{
-    if listing.len() < TS_RECORD {
         return 0;
     }
-    let ensembles = listing[4] as usize;
-    let others = TS_RECORD + EN_RECORD * ensembles;
-    if listing.len() < others {
-        return 0;
-    }
-    let services = (listing.len() - others) / SV_RECORD;
-    HEADER + ENSEMBLE * ensembles + SERVICE * services
+    ensembles_length(listing, TS_RECORD, listing[4] as usize)
 }
 
 // ---- the chunk
 
-// Puts the service whose record is at a place of the listing at a place of the chunk.
+// Puts the service whose record is at a place of the listing at a place of the chunk. All is read before anything is put: so the compiler may
+// take two bytes at once.
 fn put_service(listing: &[u8], at: usize, chunk: &mut [u8], to: usize)
     requires { ⌜ svFits (drop at (now listing)) ≡ true ⌝ }
     requires { ⌜ to + serviceBytes ≤ length (now chunk) ⌝ }
     ensures { λ _. ⌜ now (chunk .exit) ≡ sets (now (chunk .entry)) to (servicePut (drop at (now (listing .entry)))) ⌝ }
 {
+    let high = listing[at + 2];
+    let low = listing[at + 3];
     let multi = listing[at + 4];
     let status = listing[at + 5];
     let sp = listing[at + 6];
-    chunk[to] = listing[at + 2];
-    chunk[to + 1] = listing[at + 3];
+    chunk[to] = high;
+    chunk[to + 1] = low;
     chunk[to + 2] = 224 + multi * 8 + status * 2 + sp;
 }
 
@@ -229,40 +235,40 @@ fn put_chunk(listing: &[u8], kind: Kind, chunk: &mut [u8])
     requires { ⌜ length (chunkPut kind (now listing)) ≤ length (now chunk) ⌝ }
     ensures { λ _. ⌜ now (chunk .exit) ≡ sets (now (chunk .entry)) 0 (chunkPut kind (now (listing .entry))) ⌝ }
 {
+    let high = listing[2];
+    let low = listing[3];
     let count = listing[4];
     chunk[0] = 0;
     chunk[1] = 2 + meaning::current_of(kind);
-    chunk[2] = listing[2];
-    chunk[3] = listing[3];
+    chunk[2] = high;
+    chunk[3] = low;
     chunk[4] = count;
     put_ensembles(listing, TS_RECORD, count as usize, chunk, HEADER);
 }
 
 // ---- the segments
 
-// Puts one segment at a place of the output.
-fn put_segment(kind: Kind, last: u8, chunk: &[u8], number: u8, out: &mut [u8], at: usize)
-    requires { ⌜ (last < mostSegments) × (number ≤ last) ⌝ }
-    requires { ⌜ (payloadBytes * number + payloadBytes ≤ length (now chunk)) × (at + segmentBytes ≤ length (now out)) ⌝ }
-    ensures { λ _. ⌜ now (out .exit) ≡ sets (now (out .entry)) at (segmentPut kind last (now (chunk .entry)) number) ⌝ }
+// Makes one segment of the 35 bytes with its number, that stand before their place in the output: they move to it by value.
+fn move_segment(kind: Kind, last: u8, number: u8, out: &mut [u8])
+    requires { ⌜ (last < mostSegments) × (number ≤ last) × (segmentBytes * (last + 1) ≤ length (now out)) ⌝ }
+    ensures { λ _. ⌜ now (out .exit) ≡ sets (now (out .entry)) (segmentBytes * number) (segmentPut kind last (now (out .entry)) number) ⌝ }
 {
+    let at = SEGMENT * number as usize;
+    let payload = segments::payload_at(out, PAYLOAD * number as usize);
+    segments::put_payload(payload, out, at + HEAD);
     out[at] = 48 + meaning::current_of(kind) * 2;
     out[at + 1] = number * 16 + last;
-    segments::copy_payload(chunk, PAYLOAD * number as usize, out, at + HEAD);
 }
 
-// Puts the segments with the numbers 0 to last, in order.
-fn put_segments(kind: Kind, last: u8, chunk: &[u8], out: &mut [u8])
-    requires { ⌜ last < mostSegments ⌝ }
-    requires { ⌜ (payloadBytes * (last + 1) ≤ length (now chunk)) × (segmentBytes * (last + 1) ≤ length (now out)) ⌝ }
-    ensures { λ _. ⌜ now (out .exit) ≡ sets (now (out .entry)) 0 (segmentsPut kind last (now (chunk .entry)) 0 (last + 1)) ⌝ }
+// Makes the segments of a chunk that stands at the start of the output, with its stuffing: the last one first, so that no bytes are lost.
+fn move_segments(kind: Kind, last: u8, out: &mut [u8])
+    requires { ⌜ (last < mostSegments) × (segmentBytes * (last + 1) ≤ length (now out)) ⌝ }
+    ensures { λ _. ⌜ now (out .exit) ≡ sets (now (out .entry)) 0 (segmentsPut kind last (now (out .entry)) 0 (last + 1)) ⌝ }
 {
-    let mut number = 0u8;
-    let mut at = 0;
-    while number <= last {
-        put_segment(kind, last, chunk, number, out, at);
-        at += SEGMENT;
-        number += 1;
+    let mut left = last + 1;
+    while 0 < left {
+        left -= 1;
+        move_segment(kind, last, left, out);
     }
 }
 
@@ -273,18 +279,17 @@ pub fn write(listing: &[u8], kind: Kind, out: &mut [u8]) -> Written
     if out.len() < OUTPUT {
         return Written::Refused(Refusal::ShortBuffer);
     }
-    let bad = !listing_fits(listing);
     let length = chunk_length(listing);
-    let many = LONGEST_CHUNK < length;
-    if bad {
+    if length == 0 {
         return Written::Refused(Refusal::BadListing);
     }
-    if many {
+    if LONGEST_CHUNK < length {
         return Written::Refused(Refusal::TooMany);
     }
     let count = (length + (PAYLOAD - 1)) / PAYLOAD;
-    let mut chunk = [STUFFING; LONGEST_CHUNK];
-    put_chunk(listing, kind, &mut chunk);
-    put_segments(kind, (count - 1) as u8, &chunk, out);
+    // only the last segment can have stuffing
+    segments::put_payload([STUFFING; PAYLOAD], out, PAYLOAD * (count - 1));
+    put_chunk(listing, kind, out);
+    move_segments(kind, (count - 1) as u8, out);
     Written::Segments(count)
 }

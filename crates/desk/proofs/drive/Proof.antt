@@ -1,10 +1,8 @@
 -- `desk::drive` meets its contract: a short buffer, a refusal of the segment itself, or the slot of its kind. Assumes nothing.
 use mathlib.Core.Path.{sym, _∙_}
-use mathlib.Core.Bool.{true, false}
 use native.Mathlib.Omega.{arith}
 use denote.Ref.{now}
 use Rattle.slots.proofs.Keeps.{segment-passes}
-use Rattle.desk.proofs.Keeps.{desk-parts}
 use Rattle.desk.proofs.Laws.{first-short, second-short, taken-refused, taken-steered}
 use borrow.Author.Needs.{needs}
 use Rattle.desk.proofs.drive.Statement.{statement}
@@ -14,13 +12,13 @@ short-requires : tie.Need-short-requires
 short-requires c κs = search needs
 
 returns : tie.Need-returns
-returns c = first-short _ _ _ _ (c .before .before .before .before .before .pre) (c .before .if1 .taken) (c .short .ensures)
+returns c = first-short _ _ _ _ (c .before .before .before .before .before .before .pre) (c .before .if1 .taken) (c .short .ensures)
 
 short-requires-2 : tie.Need-short-requires-2
 short-requires-2 c κs = search needs
 
 returns-2 : tie.Need-returns-2
-returns-2 c = second-short _ _ _ _ (c .before .before .before .before .before .before .pre) (c .before .before .if1 .left) (c .before .if2 .taken) (c .short2 .ensures)
+returns-2 c = second-short _ _ _ _ (c .before .before .before .before .before .before .before .pre) (c .before .before .if1 .left) (c .before .if2 .taken) (c .short2 .ensures)
 
 check-segment-requires : tie.Need-check-segment-requires
 check-segment-requires c κs = search needs
@@ -32,55 +30,36 @@ enum-told : tie.Need-enum-told
 enum-told c = search needs
 
 shared-slice-read-kind-of : tie.Need-shared-slice-read-kind-of
-shared-slice-read-kind-of c = omega (arith, segment-passes (now (c .before .before .before .before .before .before .before .before .before .args .seg)) (sym (c .before .before .before .check-segment .ensures) ∙ c .before .enum-told .given .1))
+shared-slice-read-kind-of c = omega (arith, segment-passes (now (c .before .before .before .before .before .before .before .before .before .before .args .seg)) (sym (c .before .before .before .check-segment .ensures) ∙ c .before .enum-told .given .1))
 
 kind-of-requires : tie.Need-kind-of-requires
 kind-of-requires c κs = search needs
 
-first-serves-requires : tie.Need-first-serves-requires
-first-serves-requires c κs = search needs
-
 steer-requires : tie.Need-steer-requires
-steer-requires c κs =
-    let p = desk-parts _ (c .before .before .before .before .before .before .before .before .before .before .before .before .before .before .before .pre) in
-    (p .2, p .3, sym (c .before .before .before .before .before .before .before .before .before .check-segment .ensures) ∙ c .before .before .before .before .before .before .before .enum-told .given .1, c .before .before .before .before .before .before .before .before .before .before .before .if1 .left)
-
-steer-requires-2 : tie.Need-steer-requires-2
-steer-requires-2 c κs =
-    let p = desk-parts _ (c .before .before .before .before .before .before .before .before .before .before .before .before .before .before .before .pre) in
-    (p .2, p .3, sym (c .before .before .before .before .before .before .before .before .before .check-segment .ensures) ∙ c .before .before .before .before .before .before .before .enum-told .given .1, c .before .before .before .before .before .before .before .before .before .before .if2 .left)
+steer-requires c κs = (c .before .before .before .before .before .before .before .before .before .before .before .before .before .before .pre, sym (c .before .before .before .before .before .before .before .check-segment .ensures) ∙ c .before .before .before .before .before .enum-told .given .1, c .before .before .before .before .before .before .before .before .before .if1 .left, c .before .before .before .before .before .before .before .before .if2 .left)
 
 returns-3 : tie.Need-returns-3
 returns-3 c =
     taken-refused _ _ _ _
-    (record { formed = c .before .before .before .before .before .before .before .before .before .pre; left = c .before .before .before .before .before .if1 .left; right = c .before .before .before .before .if2 .left })
+    (record { formed = c .before .before .before .before .before .before .before .before .before .before .pre; left = c .before .before .before .before .before .if1 .left; right = c .before .before .before .before .if2 .left })
     (sym (c .before .before .before .check-segment .ensures) ∙ c .before .refusal .given .1)
 
 same-length : tie.Need-same-length
 same-length c = search needs
 
-returns-4 : tie.Need-returns-4
-returns-4 c =
-    taken-steered _ _ _ _
-    (record { formed = c .before .before .before .before .before .before .before .before .before .before .before .before .before .before .before .before .before .before .pre; left = c .before .before .before .before .before .before .before .before .before .before .before .before .before .before .if1 .left; right = c .before .before .before .before .before .before .before .before .before .before .before .before .before .if2 .left })
-    (sym (c .before .before .before .before .before .before .before .before .before .before .before .before .check-segment .ensures) ∙ c .before .before .before .before .before .before .before .before .before .before .enum-told .given .1)
-    true
-    (c .before .before .before .before .before .before .before .before .kind-of .ensures)
-    (sym (c .before .before .before .before .before .before .before .first-serves .ensures) ∙ c .before .before .before .before .before .before .if3 .taken)
-    (c .before .before .steer .ensures)
-
 same-length-2 : tie.Need-same-length-2
 same-length-2 c = search needs
 
-returns-5 : tie.Need-returns-5
-returns-5 c =
+same-length-3 : tie.Need-same-length-3
+same-length-3 c = search needs
+
+returns-4 : tie.Need-returns-4
+returns-4 c =
     taken-steered _ _ _ _
-    (record { formed = c .before .before .before .before .before .before .before .before .before .before .before .before .before .before .before .before .before .before .pre; left = c .before .before .before .before .before .before .before .before .before .before .before .before .before .before .if1 .left; right = c .before .before .before .before .before .before .before .before .before .before .before .before .before .if2 .left })
-    (sym (c .before .before .before .before .before .before .before .before .before .before .before .before .check-segment .ensures) ∙ c .before .before .before .before .before .before .before .before .before .before .enum-told .given .1)
-    false
-    (c .before .before .before .before .before .before .before .before .kind-of .ensures)
-    (sym (c .before .before .before .before .before .before .before .first-serves .ensures) ∙ c .before .before .before .before .before .before .if3 .left)
-    (c .before .before .steer2 .ensures)
+    (record { formed = c .before .before .before .before .before .before .before .before .before .before .before .before .before .before .before .before .before .before .before .before .before .pre; left = c .before .before .before .before .before .before .before .before .before .before .before .before .before .before .before .before .if1 .left; right = c .before .before .before .before .before .before .before .before .before .before .before .before .before .before .before .if2 .left })
+    (sym (c .before .before .before .before .before .before .before .before .before .before .before .before .before .before .check-segment .ensures) ∙ c .before .before .before .before .before .before .before .before .before .before .before .before .enum-told .given .1)
+    (c .before .before .before .before .before .before .before .before .before .before .kind-of .ensures)
+    (c .before .before .before .before .before .before .steer .ensures)
 
 pub drive-spec : {M : Type 1} → statement M
 drive-spec =
@@ -95,11 +74,9 @@ drive-spec =
     enum-told
     shared-slice-read-kind-of
     kind-of-requires
-    first-serves-requires
     steer-requires
-    steer-requires-2
     returns-3
     same-length
-    returns-4
     same-length-2
-    returns-5)
+    same-length-3
+    returns-4)

@@ -30,19 +30,19 @@ add-if3 : tie.Need-add-if3
 add-if3 c = search needs
 
 returns-3 : tie.Need-returns-3
-returns-3 c = entry-frame (now (c .before .before .before .before .before .before .before .args .log)) (c .before .before .before .before .before .before .before .args .at) (c .before .before .before .before .before .if1 .left) (c .before .before .before .before .if2 .left) _ (c .before .word-of .ensures) (c .match .keys1)
+returns-3 c = entry-cut (now (c .before .before .before .before .before .before .before .before .args .log)) (c .before .before .before .before .before .before .before .before .args .at) (c .before .before .before .before .before .before .if1 .left) (c .before .before .before .before .before .if2 .left) _ (c .before .before .word-of .ensures) (c .before .match .keys1) (c .if3 .taken)
 
 returns-4 : tie.Need-returns-4
-returns-4 c = entry-gathering (now (c .before .before .before .before .before .before .before .args .log)) (c .before .before .before .before .before .before .before .args .at) (c .before .before .before .before .before .if1 .left) (c .before .before .before .before .if2 .left) _ (c .before .word-of .ensures) (c .match .keys2)
+returns-4 c = entry-segment (now (c .before .before .before .before .before .before .before .before .args .log)) (c .before .before .before .before .before .before .before .before .args .at) (c .before .before .before .before .before .before .if1 .left) (c .before .before .before .before .before .if2 .left) _ (c .before .before .word-of .ensures) (c .before .match .keys1) (c .if3 .left)
 
 returns-5 : tie.Need-returns-5
-returns-5 c = entry-cut (now (c .before .before .before .before .before .before .before .before .args .log)) (c .before .before .before .before .before .before .before .before .args .at) (c .before .before .before .before .before .before .if1 .left) (c .before .before .before .before .before .if2 .left) _ (c .before .before .word-of .ensures) (c .before .match .keys3) (c .if3 .taken)
+returns-5 c = entry-gathering (now (c .before .before .before .before .before .before .before .args .log)) (c .before .before .before .before .before .before .before .args .at) (c .before .before .before .before .before .if1 .left) (c .before .before .before .before .if2 .left) _ (c .before .word-of .ensures) (c .match .keys2)
 
 returns-6 : tie.Need-returns-6
-returns-6 c = entry-segment (now (c .before .before .before .before .before .before .before .before .args .log)) (c .before .before .before .before .before .before .before .before .args .at) (c .before .before .before .before .before .before .if1 .left) (c .before .before .before .before .before .if2 .left) _ (c .before .before .word-of .ensures) (c .before .match .keys3) (c .if3 .left)
+returns-6 c = entry-frame (now (c .before .before .before .before .before .before .before .args .log)) (c .before .before .before .before .before .before .before .args .at) (c .before .before .before .before .before .if1 .left) (c .before .before .before .before .if2 .left) _ (c .before .word-of .ensures) (c .match .keys3)
 
 returns-7 : tie.Need-returns-7
-returns-7 c = entry-unknown (now (c .before .before .before .before .before .before .before .args .log)) (c .before .before .before .before .before .before .before .args .at) (c .before .before .before .before .before .if1 .left) (c .before .before .before .before .if2 .left) _ (c .before .word-of .ensures) (c .match .rest .0 .0 .1) (c .match .rest .0 .1) (c .match .rest .1)
+returns-7 c = entry-unknown (now (c .before .before .before .before .before .before .before .args .log)) (c .before .before .before .before .before .before .before .args .at) (c .before .before .before .before .before .if1 .left) (c .before .before .before .before .if2 .left) _ (c .before .word-of .ensures) (c .match .rest .1) (c .match .rest .0 .1) (c .match .rest .0 .0 .1)
 
 pub entry-at-spec : {M : Type 1} → statement M
 entry-at-spec =

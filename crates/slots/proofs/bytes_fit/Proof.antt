@@ -14,10 +14,10 @@ use Rattle.slots.proofs.bytes_fit.Statement.{statement}
 use Rattle.slots.proofs.bytes_fit.Tie as tie
 
 abbrev Inv-loop : tie.InvT-loop
-Inv-loop held bytes all none fits₀ place₀ fits place = (place ≤ mostSegments) × (fits ≡ allBelow place (clean held bytes))
+Inv-loop held bytes none fits₀ place₀ fits place = (place ≤ mostSegments) × (fits ≡ allBelow place (clean held bytes))
 
 abbrev μ-loop : tie.MeasureT-loop
-μ-loop held bytes all none fits₀ place₀ fits place = mostSegments - place
+μ-loop held bytes none fits₀ place₀ fits place = mostSegments - place
 
 slice-aggregate-none : tie.Need-slice-aggregate-none Inv-loop μ-loop
 slice-aggregate-none c = refl

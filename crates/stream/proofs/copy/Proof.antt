@@ -22,8 +22,11 @@ slice-aggregate-run-2 c = search needs
 slice-aggregate-run-3 : tie.Need-slice-aggregate-run-3
 slice-aggregate-run-3 c = search needs
 
+slice-aggregate-run-4 : tie.Need-slice-aggregate-run-4
+slice-aggregate-run-4 c = search needs
+
 run-requires : tie.Need-run-requires
-run-requires c κs = ((ap wellFormed (c .before .before .before .before .before .before .before .before .before .before .fresh .ensures) ∙ fresh-fits, omega arith, omega arith), omega arith)
+run-requires c κs = ((ap wellFormed (c .before .before .before .before .before .before .before .before .fresh .ensures) ∙ fresh-fits, omega arith, omega arith), omega arith)
 
 same-length : tie.Need-same-length
 same-length c = search needs
@@ -40,6 +43,7 @@ copy-spec =
     slice-aggregate-run
     slice-aggregate-run-2
     slice-aggregate-run-3
+    slice-aggregate-run-4
     run-requires
     same-length
     returns)

@@ -1,64 +1,49 @@
--- `writer::chunk_length` meets its contract: a well formed listing's length is that of its records, so it tells the number of services. Assumes nothing.
-use lib.ListN.{getD, drop}
+-- `writer::chunk_length` meets its contract: what is put for a well formed listing has the length of its list's chunk. Assumes nothing.
+use mathlib.Core.Path.{sym, _∙_}
+use borrow.Author.Tests.{not-true}
 use denote.Ref.{now}
+use Rattle.octets.proofs.Laws.{bytes-all}
 use Rattle.meaning.specs.Sizes.{tsBytes}
-use Rattle.meaning.specs.Listed.{listSaid}
-use Rattle.meaning.proofs.Counts.{length-ensemblesSaid, counts-said}
+use Rattle.meaning.specs.Listing.{markTS}
+use Rattle.writer.proofs.Checks.{Found, found-at}
+use Rattle.writer.proofs.Lengths.{length-bad, length-known}
 use native.Mathlib.Omega.{arith}
 use borrow.Author.Needs.{needs}
 use Rattle.writer.proofs.chunk_length.Statement.{statement}
 use Rattle.writer.proofs.chunk_length.Tie as tie
 
+-- the record is there
+found : (c : tie.Else1) → Found (now (c .before .before .before .args .listing)) 0 markTS tsBytes
+found c = found-at (now (c .before .before .before .args .listing)) 0 markTS tsBytes (c .before .stands .ensures) (c .if1 .left)
+
+stands-requires : tie.Need-stands-requires
+stands-requires c κs = search needs
+
 returns : tie.Need-returns
-returns c = λ fits. absurd (omega (arith, counts-said (now (c .before .args .listing)) fits, c .if1 .taken))
+returns c = length-bad (now (c .before .before .before .args .listing)) (sym (c .before .stands .ensures) ∙ not-true _ (c .if1 .taken))
 
-shared-slice-read-ensembles : tie.Need-shared-slice-read-ensembles
-shared-slice-read-ensembles c = search needs
+shared-slice-read-ensembles-length : tie.Need-shared-slice-read-ensembles-length
+shared-slice-read-ensembles-length c = omega (arith, found (c .before) .0)
 
-cast-ensembles : tie.Need-cast-ensembles
-cast-ensembles c = omega (arith, c .shared-slice-known .given 4)
+cast-ensembles-length : tie.Need-cast-ensembles-length
+cast-ensembles-length c = omega (arith, c .shared-slice-known2 .given 4)
 
-mul-others : tie.Need-mul-others
-mul-others c = omega (arith, c .shared-slice-known .given 4)
-
-add-others : tie.Need-add-others
-add-others c = omega (arith, c .shared-slice-known .given 4)
+ensembles-length-requires : tie.Need-ensembles-length-requires
+ensembles-length-requires c κs = omega (arith, found (c .before) .0)
 
 returns-2 : tie.Need-returns-2
-returns-2 c = λ fits. absurd (omega (arith, counts-said (now (c .before .before .before .args .listing)) fits, c .if2 .taken))
-
-sub-services : tie.Need-sub-services
-sub-services c = search needs
-
-mul-result : tie.Need-mul-result
-mul-result c = omega (arith, c .before .shared-slice-known .given 4)
-
-add-result : tie.Need-add-result
-add-result c = omega (arith, c .before .shared-slice-known .given 4)
-
-mul-result-2 : tie.Need-mul-result-2
-mul-result-2 c = search needs
-
-add-result-2 : tie.Need-add-result-2
-add-result-2 c = omega (arith, c .before .shared-slice-known .given 4)
-
-returns-3 : tie.Need-returns-3
-unfolding listSaid
-returns-3 c = λ fits. omega (arith, counts-said (now (c .before .before .before .args .listing)) fits, length-ensemblesSaid (getD (now (c .before .before .before .args .listing)) 4 0) (drop tsBytes (now (c .before .before .before .args .listing))))
+returns-2 c =
+    let xs = now (c .before .before .before .before .before .args .listing) in
+    let bytes = bytes-all xs (λ i. omega (arith, c .before .before .before .before .shared-slice-known .given i)) in
+    length-known xs _ bytes (found (c .before .before) .1) (c .ensembles-length .ensures)
 
 pub chunk-length-spec : {M : Type 1} → statement M
 chunk-length-spec =
     tie.close
     (tie.spec
+    stands-requires
     returns
-    shared-slice-read-ensembles
-    cast-ensembles
-    mul-others
-    add-others
-    returns-2
-    sub-services
-    mul-result
-    add-result
-    mul-result-2
-    add-result-2
-    returns-3)
+    shared-slice-read-ensembles-length
+    cast-ensembles-length
+    ensembles-length-requires
+    returns-2)

@@ -1,74 +1,60 @@
 -- `writer::service_fits` meets its contract, test by test. Assumes nothing.
 use mathlib.Core.Path.{refl, sym, ap₂, _∙_}
 use mathlib.Core.Bool.{_&&_}
-use borrow.Author.Tests.{not-true, le-leb, lt-leb}
-use denote.Ref.{now}
-use Rattle.meaning.specs.Sizes.{svBytes}
-use Rattle.meaning.specs.Listing.{markSV}
-use Rattle.writer.proofs.Checks.{Found, found-at, sv-tests}
 use native.Mathlib.Omega.{arith}
+use borrow.Author.Tests.{not-true, not-false, le-leb, lt-leb}
+use denote.Ref.{now}
+use Rattle.writer.proofs.Checks.{sv-tests}
 use borrow.Author.Needs.{needs}
 use Rattle.writer.proofs.service_fits.Statement.{statement}
 use Rattle.writer.proofs.service_fits.Tie as tie
 
--- the record is there
-found : (c : tie.Else1) → let a = c .before .before .before .args in Found (now (a .listing)) (a .at) markSV svBytes
-found c =
-    let a = c .before .before .before .args in
-    found-at (now (a .listing)) (a .at) markSV svBytes (c .before .stands .ensures) (c .if1 .left)
-
-stands-requires : tie.Need-stands-requires
-stands-requires c κs = search needs
+marked-requires : tie.Need-marked-requires
+marked-requires c κs = omega (arith, c .before .pre)
 
 returns : tie.Need-returns
 returns c =
-    let a = c .before .before .before .args in
-    sym (sv-tests (now (a .listing)) (a .at) ∙ ap₂ _&&_ (sym (c .before .stands .ensures) ∙ not-true _ (c .if1 .taken)) refl)
+    let s = c .before .before .before in
+    sym (sv-tests (now (s .args .listing)) (s .args .at) (s .pre) ∙ ap₂ _&&_ (sym (c .before .marked .ensures) ∙ not-true _ (c .if1 .taken)) refl)
 
 add-if2 : tie.Need-add-if2
 add-if2 c = search needs
 
 shared-slice-read-if2 : tie.Need-shared-slice-read-if2
-shared-slice-read-if2 c = omega (arith, found (c .before) .0)
+shared-slice-read-if2 c = search needs
 
 returns-2 : tie.Need-returns-2
 returns-2 c =
-    let a = c .before .before .before .before .before .args in
-    sym (sv-tests (now (a .listing)) (a .at) ∙ ap₂ _&&_ (found (c .before .before) .1) (ap₂ _&&_ (lt-leb _ _ (c .if2 .taken)) refl))
+    let s = c .before .before .before .before .before in
+    sym (sv-tests (now (s .args .listing)) (s .args .at) (s .pre) ∙ ap₂ _&&_ (sym (c .before .before .before .marked .ensures) ∙ not-false _ (c .before .before .if1 .left)) (ap₂ _&&_ (lt-leb _ _ (c .if2 .taken)) refl))
 
 add-if3 : tie.Need-add-if3
 add-if3 c = search needs
 
 shared-slice-read-if3 : tie.Need-shared-slice-read-if3
-shared-slice-read-if3 c = omega (arith, found (c .before .before .before) .0)
+shared-slice-read-if3 c = search needs
 
 returns-3 : tie.Need-returns-3
 returns-3 c =
-    let a = c .before .before .before .before .before .before .before .args in
-    sym
-    (sv-tests (now (a .listing)) (a .at)
-    ∙ ap₂ _&&_ (found (c .before .before .before .before) .1)
-    (ap₂ _&&_ (le-leb _ _ (c .before .before .if2 .left)) (ap₂ _&&_ (lt-leb _ _ (c .if3 .taken)) refl)))
+    let s = c .before .before .before .before .before .before .before in
+    sym (sv-tests (now (s .args .listing)) (s .args .at) (s .pre) ∙ ap₂ _&&_ (sym (c .before .before .before .before .before .marked .ensures) ∙ not-false _ (c .before .before .before .before .if1 .left)) (ap₂ _&&_ (le-leb _ _ (c .before .before .if2 .left)) (ap₂ _&&_ (lt-leb _ _ (c .if3 .taken)) refl)))
 
 add-result : tie.Need-add-result
 add-result c = search needs
 
 shared-slice-read-result : tie.Need-shared-slice-read-result
-shared-slice-read-result c = omega (arith, found (c .before .before .before .before .before) .0)
+shared-slice-read-result c = search needs
 
 returns-4 : tie.Need-returns-4
 returns-4 c =
-    let a = c .before .before .before .before .before .before .before .before .args in
-    sym
-    (sv-tests (now (a .listing)) (a .at)
-    ∙ ap₂ _&&_ (found (c .before .before .before .before .before) .1)
-    (ap₂ _&&_ (le-leb _ _ (c .before .before .before .if2 .left)) (ap₂ _&&_ (le-leb _ _ (c .before .if3 .left)) refl)))
+    let s = c .before .before .before .before .before .before .before .before in
+    sym (sv-tests (now (s .args .listing)) (s .args .at) (s .pre) ∙ ap₂ _&&_ (sym (c .before .before .before .before .before .before .marked .ensures) ∙ not-false _ (c .before .before .before .before .before .if1 .left)) (ap₂ _&&_ (le-leb _ _ (c .before .before .before .if2 .left)) (ap₂ _&&_ (le-leb _ _ (c .before .if3 .left)) refl)))
 
 pub service-fits-spec : {M : Type 1} → statement M
 service-fits-spec =
     tie.close
     (tie.spec
-    stands-requires
+    marked-requires
     returns
     add-if2
     shared-slice-read-if2

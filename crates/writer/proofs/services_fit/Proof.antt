@@ -1,36 +1,45 @@
--- `writer::services_fit` meets its contract. The loop's invariant: the tests on the services left, from here on, are the tests asked for.
--- The measure is the number of services left. Assumes nothing.
+-- `writer::services_fit` meets its contract. The loop's invariant: there is room for the services left, and the tests on them, from here on, are
+-- the tests asked for. The measure is the number of services left. Assumes nothing.
 use native.Mathlib.Omega.{arith}
-use Prim.Native.Nat.{_≤_}
+use Prim.Native.Nat.{_+_, _*_, _≤_}
 use mathlib.Core.Path.{_≡_, refl, sym, ap₂, _∙_}
 use mathlib.Core.Bool.{_&&_}
 use borrow.Author.Tests.{not-true, not-false}
 use lib.ListN.{length, drop}
 use denote.Ref.{now}
+use Rattle.meaning.specs.Sizes.{svBytes}
 use Rattle.meaning.specs.Listed.{servicesFit}
-use Rattle.writer.proofs.Checks.{sv-there, services-none, services-tests}
-use borrow.Author.Needs.{needs}
+use Rattle.writer.proofs.Checks.{services-short, services-none, services-tests}
 use Rattle.writer.proofs.services_fit.Statement.{statement}
 use Rattle.writer.proofs.services_fit.Tie as tie
 
 abbrev Inv-loop : tie.InvT-loop
 Inv-loop listing from count at₀ left₀ at left =
-    (at ≤ length listing) × (servicesFit left (drop at listing) ≡ servicesFit count (drop from listing))
+    (at + svBytes * left ≤ length listing) × (servicesFit left (drop at listing) ≡ servicesFit count (drop from listing))
 
 abbrev μ-loop : tie.MeasureT-loop
 μ-loop listing from count at₀ left₀ at left = left
 
-loop-holds : tie.Need-loop-holds Inv-loop μ-loop
-loop-holds c = (c .before .pre, refl)
+sub-if1 : tie.Need-sub-if1 Inv-loop μ-loop
+sub-if1 c = omega arith
 
-service-fits-requires : tie.Need-service-fits-requires Inv-loop μ-loop
-service-fits-requires c κs = search needs
+mul-if1 : tie.Need-mul-if1 Inv-loop μ-loop
+mul-if1 c = omega arith
 
 returns : tie.Need-returns Inv-loop μ-loop
-returns c =
-    let a = c .before .before .before .before .before .args in
+returns c = let a = c .before .before .args in sym (services-short (now (a .listing)) (a .from) (a .count) (omega arith))
+
+loop-holds : tie.Need-loop-holds Inv-loop μ-loop
+loop-holds c = (omega arith, refl)
+
+service-fits-requires : tie.Need-service-fits-requires Inv-loop μ-loop
+service-fits-requires c κs = omega arith
+
+returns-2 : tie.Need-returns-2 Inv-loop μ-loop
+returns-2 c =
+    let a = c .before .before .before .before .before .before .args in
     let l = c .before .before .before .loop in
-    let unfit = sym (c .before .service-fits .ensures) ∙ not-true _ (c .if1 .taken) in
+    let unfit = sym (c .before .service-fits .ensures) ∙ not-true _ (c .if2 .taken) in
     sym
     (services-tests (now (a .listing)) (l .at) (l .left) (c .before .before .loop-test .taken)
     ∙ ap₂ _&&_ unfit refl)
@@ -47,19 +56,19 @@ loop-less c = omega arith
 
 loop-again : tie.Need-loop-again Inv-loop μ-loop
 loop-again c =
-    let a = c .before .before .before .before .before .args in
+    let a = c .before .before .before .before .before .before .args in
     let l = c .before .before .before .loop in
-    let fit = sym (c .before .service-fits .ensures) ∙ not-false _ (c .if1 .left) in (
-      sv-there (now (a .listing)) (l .at) fit,
+    let fit = sym (c .before .service-fits .ensures) ∙ not-false _ (c .if2 .left) in (
+      omega arith,
       sym
           (services-tests (now (a .listing)) (l .at) (l .left) (c .before .before .loop-test .taken)
           ∙ ap₂ _&&_ fit refl)
           ∙ l .inv .1,
     )
 
-returns-2 : tie.Need-returns-2 Inv-loop μ-loop
-returns-2 c =
-    let a = c .before .before .before .args in
+returns-3 : tie.Need-returns-3 Inv-loop μ-loop
+returns-3 c =
+    let a = c .before .before .before .before .args in
     let l = c .before .loop in
     sym (services-none (now (a .listing)) (l .at) (l .left) (c .loop-test .left)) ∙ l .inv .1
 
@@ -69,11 +78,14 @@ services-fit-spec =
     (tie.spec
     Inv-loop
     μ-loop
+    sub-if1
+    mul-if1
+    returns
     loop-holds
     service-fits-requires
-    returns
+    returns-2
     add-at
     sub-left
     loop-less
     loop-again
-    returns-2)
+    returns-3)

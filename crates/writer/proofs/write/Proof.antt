@@ -1,79 +1,112 @@
 -- `writer::write` meets its contract: each refusal is the definition's at the first test that fails, and the segments are the cut chunk. Assumes nothing.
-use mathlib.Core.Path.{refl, sym, ap, _∙_, subst}
-use borrow.Author.Tests.{ltb-true, ltb-false, not-true, not-false}
+use mathlib.Core.Path.{_≡_, ap, subst}
+use mathlib.Core.Bool.{true}
 use Prim.Native.Nat.{ℕ, _≤_, _<_}
 use denote.Ref.{now}
+use Rattle.octets.specs.Bits.{Bytes}
 use Rattle.octets.proofs.Laws.{bytes-all}
 use Rattle.meaning.specs.Sizes.{longestChunk}
+use Rattle.meaning.specs.Listed.{listingFits, listSaid}
+use Rattle.meaning.specs.Plain.{plainLength}
 use Rattle.segments.specs.Cut.{segmentsFor}
+use Rattle.writer.proofs.Chunks.{length-put}
+use Rattle.writer.proofs.Lengths.{length-none, length-some}
 use Rattle.writer.proofs.Answers.{checks-short, checks-bad, checks-many, says-refused}
-use Rattle.writer.proofs.Outputs.{length-put, written-says}
+use Rattle.writer.proofs.Outputs.{written-says}
 use native.Mathlib.Omega.{arith}
 use borrow.Author.Needs.{needs}
 use Rattle.writer.proofs.write.Statement.{statement}
 use Rattle.writer.proofs.write.Tie as tie
 
-returns : tie.Need-returns
-returns c = says-refused (now (c .before .before .before .args .listing)) (c .before .before .before .args .kind) (now (c .before .before .before .args .out)) (checks-short (now (c .before .before .before .args .listing)) (now (c .before .before .before .args .out)) (c .if1 .taken))
+-- what the length tells of a listing that is well formed
+known : (c : tie.Else2) → let xs = now (c .before .before .before .before .before .args .listing) in (listingFits xs ≡ true) × (c .before .chunk-length .result ≡ plainLength (listSaid xs))
+known c = length-some (now (c .before .before .before .before .before .args .listing)) (c .before .chunk-length .result) (c .before .chunk-length .ensures) (c .if2 .left)
 
-listing-fits-requires : tie.Need-listing-fits-requires
-listing-fits-requires c κs = search needs
+bytes : (c : tie.Else3) → Bytes (now (c .before .before .before .before .before .before .args .listing))
+bytes c = bytes-all (now (c .before .before .before .before .before .before .args .listing)) (λ i. omega (arith, c .before .before .before .before .before .shared-slice-known .given i))
+
+returns : tie.Need-returns
+returns c =
+    let a = c .before .before .before .args in
+    says-refused (now (a .listing)) (a .kind) (now (a .out)) (checks-short (now (a .listing)) (now (a .out)) (c .if1 .taken))
 
 chunk-length-requires : tie.Need-chunk-length-requires
 chunk-length-requires c κs = search needs
 
 returns-2 : tie.Need-returns-2
-returns-2 c = says-refused (now (c .before .before .before .before .before .before .args .listing)) (c .before .before .before .before .before .before .args .kind) (now (c .before .before .before .before .before .before .args .out)) (checks-bad (now (c .before .before .before .before .before .before .args .listing)) (now (c .before .before .before .before .before .before .args .out)) (c .before .before .before .if1 .left) (sym (c .before .before .listing-fits .ensures) ∙ not-true _ (c .if2 .taken)))
+returns-2 c =
+    let a = c .before .before .before .before .before .args in
+    let bad = length-none (now (a .listing)) (c .before .chunk-length .result) (c .before .chunk-length .ensures) (c .if2 .taken) in
+    says-refused (now (a .listing)) (a .kind) (now (a .out)) (checks-bad (now (a .listing)) (now (a .out)) (c .before .before .if1 .left) bad)
 
 returns-3 : tie.Need-returns-3
-returns-3 c = says-refused (now (c .before .before .before .before .before .before .before .args .listing)) (c .before .before .before .before .before .before .before .args .kind) (now (c .before .before .before .before .before .before .before .args .out)) (checks-many (now (c .before .before .before .before .before .before .before .args .listing)) (now (c .before .before .before .before .before .before .before .args .out)) (c .before .before .before .before .if1 .left) (sym (c .before .before .before .listing-fits .ensures) ∙ not-false _ (c .before .if2 .left)) (subst (λ (m : ℕ). longestChunk < m) (c .before .before .chunk-length .ensures (sym (c .before .before .before .listing-fits .ensures) ∙ not-false _ (c .before .if2 .left))) (ltb-true _ _ (c .if3 .taken))))
+returns-3 c =
+    let a = c .before .before .before .before .before .before .args in
+    let k = known (c .before) in
+    says-refused (now (a .listing)) (a .kind) (now (a .out))
+    (checks-many (now (a .listing)) (now (a .out)) (c .before .before .before .if1 .left) (k .0) (subst (λ (m : ℕ). longestChunk < m) (k .1) (c .if3 .taken)))
 
 sub-count : tie.Need-sub-count
 sub-count c = search needs
 
 add-count : tie.Need-add-count
-add-count c = omega (arith, (ltb-false longestChunk (c .before .before .chunk-length .result) (c .if3 .left)))
+add-count c = search needs
 
-slice-aggregate-put-chunk : tie.Need-slice-aggregate-put-chunk
-slice-aggregate-put-chunk c = search needs
+sub-put-payload : tie.Need-sub-put-payload
+sub-put-payload c = search needs
+
+mul-put-payload : tie.Need-mul-put-payload
+mul-put-payload c = search needs
+
+put-payload-requires : tie.Need-put-payload-requires
+put-payload-requires c κs = omega arith
 
 put-chunk-requires : tie.Need-put-chunk-requires
-put-chunk-requires c κs = ((sym (c .before .before .before .before .listing-fits .ensures) ∙ not-false _ (c .before .before .if2 .left)), omega (arith, length-put (c .before .before .before .before .before .before .before .before .args .kind) (now (c .before .before .before .before .before .before .before .before .args .listing)) (now (c .before .before .before .before .before .before .before .before .args .out)) (bytes-all (now (c .before .before .before .before .before .before .before .before .args .listing)) (λ i. omega (arith, c .before .before .before .before .before .before .before .shared-slice-known .given i))) (c .before .before .before .before .before .if1 .left) (sym (c .before .before .before .before .listing-fits .ensures) ∙ not-false _ (c .before .before .if2 .left)) (subst (λ (m : ℕ). m ≤ longestChunk) (c .before .before .before .chunk-length .ensures (sym (c .before .before .before .before .listing-fits .ensures) ∙ not-false _ (c .before .before .if2 .left))) (ltb-false longestChunk (c .before .before .before .chunk-length .result) (c .before .if3 .left))), (c .before .before .before .chunk-length .ensures (sym (c .before .before .before .before .listing-fits .ensures) ∙ not-false _ (c .before .before .if2 .left))), (ltb-false longestChunk (c .before .before .before .chunk-length .result) (c .before .if3 .left))))
+put-chunk-requires c κs =
+    let e = c .before .before .before .before .before in
+    let a = e .before .before .before .before .before .before .args in
+    let k = known (e .before) in
+    (k .0, omega (arith, length-put (a .kind) (now (a .listing)) (bytes e) (k .0), k .1, e .if3 .left, c .before .before .before .put-payload .kept .1 .0, e .before .before .before .if1 .left))
 
-sub-put-segments : tie.Need-sub-put-segments
-sub-put-segments c = omega (arith, (c .before .before .before .before .before .chunk-length .ensures (sym (c .before .before .before .before .before .before .listing-fits .ensures) ∙ not-false _ (c .before .before .before .before .if2 .left))))
+sub-move-segments : tie.Need-sub-move-segments
+sub-move-segments c = search needs
 
-cast-put-segments : tie.Need-cast-put-segments
-cast-put-segments c = omega (arith, (ltb-false longestChunk (c .before .before .before .before .before .chunk-length .result) (c .before .before .before .if3 .left)))
+cast-move-segments : tie.Need-cast-move-segments
+cast-move-segments c = search needs
 
-slice-aggregate-put-segments : tie.Need-slice-aggregate-put-segments
-slice-aggregate-put-segments c = search needs
-
-put-segments-requires : tie.Need-put-segments-requires
-put-segments-requires c κs = omega (arith, (c .before .before .before .before .before .before .before .chunk-length .ensures (sym (c .before .before .before .before .before .before .before .before .listing-fits .ensures) ∙ not-false _ (c .before .before .before .before .before .before .if2 .left))), (ltb-false longestChunk (c .before .before .before .before .before .before .before .chunk-length .result) (c .before .before .before .before .before .if3 .left)), c .before .before .before .before .before .before .before .before .before .if1 .left)
+move-segments-requires : tie.Need-move-segments-requires
+move-segments-requires c κs = omega arith
 
 same-length : tie.Need-same-length
 same-length c = search needs
 
 returns-4 : tie.Need-returns-4
-returns-4 c = written-says (c .before .before .before .before .before .before .before .before .before .before .before .before .before .before .before .args .kind) (now (c .before .before .before .before .before .before .before .before .before .before .before .before .before .before .before .args .listing)) (now (c .before .before .before .before .before .before .before .before .before .before .before .before .before .before .before .args .out)) (bytes-all (now (c .before .before .before .before .before .before .before .before .before .before .before .before .before .before .before .args .listing)) (λ i. omega (arith, c .before .before .before .before .before .before .before .before .before .before .before .before .before .before .shared-slice-known .given i))) (c .before .before .before .before .before .before .before .before .before .before .before .before .if1 .left) (sym (c .before .before .before .before .before .before .before .before .before .before .before .listing-fits .ensures) ∙ not-false _ (c .before .before .before .before .before .before .before .before .before .if2 .left)) (subst (λ (m : ℕ). m ≤ longestChunk) (c .before .before .before .before .before .before .before .before .before .before .chunk-length .ensures (sym (c .before .before .before .before .before .before .before .before .before .before .before .listing-fits .ensures) ∙ not-false _ (c .before .before .before .before .before .before .before .before .before .if2 .left))) (ltb-false longestChunk (c .before .before .before .before .before .before .before .before .before .before .chunk-length .result) (c .before .before .before .before .before .before .before .before .if3 .left))) _ _ _ _ (ap segmentsFor (c .before .before .before .before .before .before .before .before .before .before .chunk-length .ensures (sym (c .before .before .before .before .before .before .before .before .before .before .before .listing-fits .ensures) ∙ not-false _ (c .before .before .before .before .before .before .before .before .before .if2 .left)))) (c .before .before .before .before .before .before .put-chunk .ensures) refl (c .before .before .put-segments .ensures)
+returns-4 c =
+    let e = c .before .before .before .before .before .before .before .before .before .before .before .before in
+    let a = e .before .before .before .before .before .before .args in
+    let k = known (e .before) in
+    written-says (a .kind) (now (a .listing)) (now (a .out)) (bytes e) (e .before .before .before .if1 .left) (k .0) (subst (λ (m : ℕ). m ≤ longestChunk) (k .1) (e .if3 .left)) _ _ _ _
+    (ap segmentsFor (k .1))
+    (c .before .before .before .before .before .before .before .before .before .before .put-payload .ensures)
+    (c .before .before .before .before .before .before .put-chunk .ensures)
+    (c .before .before .move-segments .ensures)
 
 pub write-spec : {M : Type 1} → statement M
 write-spec =
     tie.close
     (tie.spec
     returns
-    listing-fits-requires
     chunk-length-requires
     returns-2
     returns-3
     sub-count
     add-count
-    slice-aggregate-put-chunk
+    sub-put-payload
+    mul-put-payload
+    put-payload-requires
     put-chunk-requires
-    sub-put-segments
-    cast-put-segments
-    slice-aggregate-put-segments
-    put-segments-requires
+    sub-move-segments
+    cast-move-segments
+    move-segments-requires
     same-length
     returns-4)

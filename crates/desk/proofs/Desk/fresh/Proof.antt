@@ -1,5 +1,6 @@
 -- `desk::Desk::fresh` meets its contract. Assumes nothing.
 use mathlib.Core.Path.{ap, _∙_}
+use mathlib.Core.List.{_++_}
 use Rattle.slots.specs.Slots.{noBytes}
 use Rattle.desk.specs.declared.Marks.{Marks}
 use Rattle.desk.specs.Desks.{desk}
@@ -14,7 +15,7 @@ bare-requires : tie.Need-bare-requires
 bare-requires c κs = search needs
 
 returns : tie.Need-returns
-returns c = c .bare .ensures ∙ ap (λ (m : Marks). desk m noBytes noBytes) (c .before .emptied .ensures)
+returns c = c .bare .ensures ∙ ap (λ (m : Marks). desk m (noBytes ++ noBytes)) (c .before .emptied .ensures)
 
 pub fresh-spec : {M : Type 1} → statement M
 fresh-spec = tie.close (tie.spec emptied-requires bare-requires returns)

@@ -12,8 +12,11 @@ well-formed-requires c κs = search needs
 returns : tie.Need-returns
 returns c = taken-unfit _ _ _ _ (sym (c .before .well-formed .ensures) ∙ not-true _ (c .if1 .taken))
 
+slice-aggregate-drive : tie.Need-slice-aggregate-drive
+slice-aggregate-drive c = search needs
+
 drive-requires : tie.Need-drive-requires
-drive-requires c κs = sym (c .before .before .before .before .before .before .before .before .well-formed .ensures) ∙ not-false _ (c .before .before .before .before .before .before .before .if1 .left)
+drive-requires c κs = sym (c .before .before .before .before .before .before .well-formed .ensures) ∙ not-false _ (c .before .before .before .before .before .if1 .left)
 
 same-length : tie.Need-same-length
 same-length c = search needs
@@ -27,4 +30,4 @@ returns-2 c = search needs
 pub segment-spec : {M : Type 1} → statement M
 segment-spec =
     tie.close
-    (tie.spec well-formed-requires returns drive-requires same-length same-length-2 returns-2)
+    (tie.spec well-formed-requires returns slice-aggregate-drive drive-requires same-length same-length-2 returns-2)
