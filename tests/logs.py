@@ -124,6 +124,20 @@ def dressed():
     return steps
 
 
+def full_output():
+    # in one block of 65,536 bytes five times what the output holds, each list another
+    steps = []
+    for i in range(40):
+        this, after = plain(183, 0x1000 + i), plain(183, 0x2000 + i)
+        steps += sent(this, "this") + sent(after, "next") + fr(after) + GA
+    return steps
+
+
+def record_by_record():
+    # two turns, each of one record, for every 41 bytes that are read through a block of 39: over 4,096 of them
+    return (GA + miss(1, A)) * 2100
+
+
 def main():
     some = sent(ONE, "next") + miss(1, A) + fr(ONE) + miss(1, A)
     logs = {"sample": sent(ONE, "next") + fr(ONE) + NONE}
@@ -131,7 +145,7 @@ def main():
     tails = {"mark_cut": b"S", "mark_cut_f": b"F", "segment_cut": B[:38], "segment_bare": b"SG", "unknown_mark": b"XXFR",
              "unknown_f": b"FG" + B[2:], "unknown_g": b"GRFR"}
     logs |= {name: some + [(tail, "END 15")] for name, tail in tails.items()}
-    logs |= {"empty": []} | {make.__name__: make() for make in (gatherings, dressed, long_night)}
+    logs |= {"empty": []} | {make.__name__: make() for make in (gatherings, dressed, long_night, full_output, record_by_record)}
     (CRATES / "logs/data").mkdir(parents=True, exist_ok=True)
     (CRATES / "log").mkdir(exist_ok=True)
     counts, output = collections.Counter(), ""

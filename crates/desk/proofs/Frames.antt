@@ -46,7 +46,7 @@ module _ (k : Kind) (d : Desk) (first second : List ℕ) where
   unfolding shown shownLength
   shown-ready y e l = simp (y .formed, le-ltb _ _ (y .left), le-ltb _ _ (y .right)) (λ i. take (l i) (lentFor k (e i) first second))
 
-  shown-none : (wellFormed d ≡ true → lengthFor k (d .marks) ≡ 0) → shown k d first second ≡ []
+  pub shown-none : (wellFormed d ≡ true → lengthFor k (d .marks) ≡ 0) → shown k d first second ≡ []
   unfolding shown
   shown-none e =
       length-cases (λ n. take n (lentFor k (d .marks .swapped) first second) ≡ []) refl
@@ -88,9 +88,6 @@ module _ (d : Desk) (first second : List ℕ) where
   pub frame-next : shown Next (newFrame d) first second ≡ []
   frame-next =
       shown-none Next (newFrame d) first second (λ e. either (wellFormed d) (λ w. rw (frame-good d w)) (λ w. rw (frame-bad d w)))
-
-pub frame-twice : (d : Desk) (first second : List ℕ) → shown This (newFrame (newFrame d)) first second ≡ []
-frame-twice d first second = frame-shows (newFrame d) first second ∙ frame-next d first second
 
 -- ---- a segment
 

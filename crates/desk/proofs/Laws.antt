@@ -1,6 +1,6 @@
 -- Laws of the desk's definitions in the code's own terms. Assumes nothing.
 use mathlib.Core.Path.{_≡_, sym, ap, _∙_}
-use mathlib.Core.Bool.{Bool, true, false, cond, not}
+use mathlib.Core.Bool.{Bool, true, false, cond, not, _||_, and-false, Bool·not-not}
 use mathlib.Core.List.{List, _++_}
 use Prim.Native.Nat.{ℕ, _≤_, _<_}
 use borrow.Author.Tests.{lt-ltb, le-ltb, eq-eqb, ne-eqb, le-leb, lt-leb}
@@ -20,7 +20,7 @@ use Rattle.slots.specs.Slots.{noBytes, slotFits}
 use Rattle.slots.specs.Gathering.{side, Outcome, outcome, gathered}
 use Rattle.desk.specs.declared.Marks.{Marks}
 use Rattle.desk.specs.declared.Desk.{Desk}
-use Rattle.desk.specs.Desks.{desk, bytesFor, emptied, fresh, lengthFits, wellFormed, slotFor, lengthFor, newGathering, newFrame, firstServes, lentFor, After, after, sideOf, marksWith, bytesWith, takenBy, segmentAfter, shownLength, shown}
+use Rattle.desk.specs.Desks.{desk, bytesFor, emptied, fresh, lengthFits, wellFormed, slotFor, lengthFor, newGathering, newFrame, firstServes, lentFor, tooShort, After, after, sideOf, marksWith, bytesWith, takenBy, segmentAfter, shownLength, shown}
 use Rattle.desk.proofs.Roles.{Ready, ready-answered}
 
 -- ---- a listing's length
@@ -92,6 +92,23 @@ module _ (k : Kind) (d : Desk) (xs first second : List ℕ) where
       ∙ (λ i. after a (desk (marksWith k (d .marks) t a) (bytesWith k d back)) (cond (one-is i) (gathered k xs (sideOf k d (cond mine first second)) .side .buffer) first) (cond (one-is i) second (gathered k xs (sideOf k d (cond mine first second)) .side .buffer)))
       ∙ (λ i. after (g i .answer) (desk (marksWith k (d .marks) (g i .side .slot) (g i .answer)) (bytesWith k d (g i .side .bytes))) (cond mine (gathered k xs (sideOf k d (cond mine first second)) .side .buffer) first) (cond mine second (gathered k xs (sideOf k d (cond mine first second)) .side .buffer)))
 
+-- ---- both buffers are long enough, or not
+
+-- what a flag says that is the opposite of a test
+pub opposite : {t u : Bool} → t ≡ not u → not t ≡ u
+opposite {t} {u} e = ap not e ∙ Bool·not-not u
+
+module _ (first second : List ℕ) where
+  pub first-short : length first < longestListing → false ≡ not (tooShort first || tooShort second)
+  first-short h = simp (lt-ltb _ _ h)
+
+  module _ (one : longestListing ≤ length first) where
+    pub second-short : length second < longestListing → false ≡ not (tooShort first || tooShort second)
+    second-short h = simp (le-ltb _ _ one, lt-ltb _ _ h)
+
+    pub both-long : longestListing ≤ length second → true ≡ not (tooShort first || tooShort second)
+    both-long h = simp (le-ltb _ _ one, le-ltb _ _ h)
+
 -- ---- a segment: 12, 1, its own checks, or taken
 
 module _ (d : Desk) (xs first second : List ℕ) where
@@ -99,17 +116,9 @@ module _ (d : Desk) (xs first second : List ℕ) where
   unfolding segmentAfter
   taken-unfit e = simp e
 
-  module _ (fit : wellFormed d ≡ true) {a : Answer} {m : Marks} where
-    short-with : (a ≡ Refused ShortBuffer) × (m ≡ d .marks) → after (Refused ShortBuffer) d first second ≡ segmentAfter d xs first second → after a (desk m (d .bytes)) first second ≡ segmentAfter d xs first second
-    short-with s e = (λ i. after (s .0 i) (desk (s .1 i) (d .bytes)) first second) ∙ e
-
-    pub first-short : length first < longestListing → (a ≡ Refused ShortBuffer) × (m ≡ d .marks) → after a (desk m (d .bytes)) first second ≡ segmentAfter d xs first second
-    unfolding segmentAfter
-    first-short h s = short-with s (simp (fit, lt-ltb _ _ h))
-
-    pub second-short : longestListing ≤ length first → length second < longestListing → (a ≡ Refused ShortBuffer) × (m ≡ d .marks) → after a (desk m (d .bytes)) first second ≡ segmentAfter d xs first second
-    unfolding segmentAfter
-    second-short one h s = short-with s (simp (fit, le-ltb _ _ one, lt-ltb _ _ h))
+  pub taken-short : wellFormed d ≡ true → (tooShort first || tooShort second) ≡ true → after (Refused ShortBuffer) d first second ≡ segmentAfter d xs first second
+  unfolding segmentAfter
+  taken-short fit e = simp (fit, e)
 
   module _ (y : Ready d first second) where
     pub taken-refused : {f : Refusal} → segmentChecks xs ≡ Fault f → after (Refused f) d first second ≡ segmentAfter d xs first second
@@ -125,19 +134,13 @@ module _ (k : Kind) (d : Desk) (first second : List ℕ) where
   unfolding shownLength
   shown-unfit e = simp e
 
-  module _ (fit : wellFormed d ≡ true) where
-    pub shown-first : length first < longestListing → 0 ≡ shownLength k d first second
-    unfolding shownLength
-    shown-first h = simp (fit, lt-ltb _ _ h)
+  pub shown-short : not (tooShort first || tooShort second) ≡ false → 0 ≡ shownLength k d first second
+  unfolding shownLength
+  shown-short e = simp (e, and-false)
 
-    module _ (one : longestListing ≤ length first) where
-      pub shown-second : length second < longestListing → 0 ≡ shownLength k d first second
-      unfolding shownLength
-      shown-second h = simp (fit, le-ltb _ _ one, lt-ltb _ _ h)
-
-      pub shown-both : longestListing ≤ length second → lengthFor k (d .marks) ≡ shownLength k d first second
-      unfolding shownLength
-      shown-both two = simp (fit, le-ltb _ _ one, le-ltb _ _ two)
+  pub shown-long : wellFormed d ≡ true → not (tooShort first || tooShort second) ≡ true → lengthFor k (d .marks) ≡ shownLength k d first second
+  unfolding shownLength
+  shown-long fit e = simp (fit, e)
 
 pub shown-is : (k : Kind) (d : Desk) (first second : List ℕ) (n : ℕ) (r : List ℕ) → n ≡ shownLength k d first second → r ≡ take n (lentFor k (d .marks .swapped) first second) → r ≡ shown k d first second
 unfolding shown

@@ -5,4 +5,6 @@ pub mod Frames
 pub mod Apart
 pub mod Reserved
 pub mod Refusals
+pub mod Accepted
+pub mod Calls
 pub mod Laws

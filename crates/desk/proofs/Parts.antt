@@ -64,9 +64,9 @@ altered-bytes Next d o w long =
     let l = length-bytes This d w in
     (drop-at (bytesFor This d) (o .side .bytes) longestChunk l, take-at (bytesFor This d) (o .side .bytes) longestChunk l)
 
-pub start-low : (k : Kind) (at : ℕ) → (k ≡ This → at ≡ 0) × (k ≡ Next → at ≡ longestChunk) → at ≤ longestChunk
-start-low This at is = omega (arith, is .0 refl)
-start-low Next at is = omega (arith, is .1 refl)
+pub start-low : {k : Kind} {at : ℕ} → (k ≡ This → at ≡ 0) × (k ≡ Next → at ≡ longestChunk) → at ≤ longestChunk
+start-low {k = This} is = omega (arith, is .0 refl)
+start-low {k = Next} is = omega (arith, is .1 refl)
 
 -- a kind's bytes as a part of them all: from the place at which they begin, and with others put there
 pub part-own : (k : Kind) (d : Desk) → wellFormed d ≡ true → (at : ℕ) → (k ≡ This → at ≡ 0) × (k ≡ Next → at ≡ longestChunk) → let n = at + longestChunk - at in (take n (drop at (d .bytes)) ≡ bytesFor k d) × ((bytes : List ℕ) → take at (d .bytes) ++ (bytes ++ drop n (drop at (d .bytes))) ≡ bytesWith k d bytes)

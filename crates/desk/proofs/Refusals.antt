@@ -1,10 +1,10 @@
 -- What a refusal of a segment answers and leaves. Assumes nothing.
 use mathlib.Core.Path.{_≡_, refl, sym, ap, _∙_, subst}
-use mathlib.Core.Bool.{Bool, true, false, cond, not, _&&_}
+use mathlib.Core.Bool.{Bool, true, false}
 use mathlib.Core.List.{List, [], _∷_}
 use Prim.Native.Nat.{ℕ, zero, suc, _+_, _*_, _≤_}
 use native.Mathlib.Omega.{arith}
-use borrow.Author.Tests.{le-ltb, eqb-true}
+use borrow.Author.Tests.{le-ltb, eq-eqb, ne-eqb, eqb-true}
 use lib.Dec.{T, eqb}
 use lib.ListN.{length, length-take}
 use lib.Seq.{length-sets}
@@ -21,17 +21,27 @@ use Rattle.meaning.specs.Reading.{check, checks, ensemblesChecks, past}
 use Rattle.slots.specs.declared.Slot.{Slot}
 use Rattle.slots.specs.declared.Answer.{Answer}
 use Rattle.slots.specs.declared.Answer.the-variants.{Missing, Listed, Refused}
-use Rattle.segments.specs.Segment.{payloadBytes, segmentKind, numberIn, payloadIn, segmentChecks}
+use Rattle.segments.specs.Segment.{payloadBytes, segmentMajor, segmentKind, numberIn, payloadIn, segmentChecks}
 use Rattle.slots.specs.Slots.{holds, spoiledSlot, missingIn, slotFits, clashing}
-use Rattle.slots.specs.Gathering.{answerFault, Side, Outcome, outcome, spoil, hold, chunkIn, kindChecks, judged, completed, gathered}
-use Rattle.slots.proofs.Keeps.{slot-numbers}
+use Rattle.slots.specs.Gathering.{answerFault, Side, Outcome, outcome, spoil, chunkIn, kindChecks, gathered}
+use Rattle.slots.proofs.Keeps.{segment-passes, slot-numbers}
+use Rattle.slots.proofs.Laws.{gathered-cases}
 use Rattle.desk.specs.declared.Desk.{Desk}
 use Rattle.desk.specs.Desks.{wellFormed, slotFor, bytesFor, After, after, takenBy, callChecks, segmentAfter}
-use Rattle.desk.specs.Effects.{segmentFault, earlyNumbers, chunkNumbers, Leaves, unchanged, spoils, completes}
-use Rattle.desk.proofs.Roles.{own, Takes, takes, unlisted-becomes, missing-unchanged, called-ready, segment-cases}
+use Rattle.desk.specs.Effects.{slotBefore, slotHolding, chunkChecks, segmentFault, Leaves, unchanged, spoils, completes, Changes}
+use Rattle.desk.proofs.Roles.{own, Takes, takes, unlisted-becomes, missing-unchanged, Ready, called-ready, ready-called, segment-cases}
 use Rattle.desk.proofs.Parts.{kind-fits}
 
 -- ---- the numbers that some checks can give
+
+abbrev earlyNumbers : List ℕ
+earlyNumbers = 1 ∷ 2 ∷ 3 ∷ 4 ∷ 5 ∷ 6 ∷ 12 ∷ []
+
+abbrev chunkNumbers : List ℕ
+chunkNumbers = 5 ∷ 9 ∷ 10 ∷ 11 ∷ []
+
+abbrev otherNumbers : List ℕ
+otherNumbers = 1 ∷ 2 ∷ 3 ∷ 4 ∷ 6 ∷ 12 ∷ []
 
 -- a refusal has a number among these
 Gives : List ℕ → Checked → Type 0
@@ -48,9 +58,18 @@ module _ (ns : List ℕ) where
   gives-check true f v m g = m
   gives-check false f v m g = g
 
+  given : {v : Checked} {f : Refusal} → v ≡ Fault f → Gives ns v → T (among ns (numberOf f))
+  unfolding Gives
+  given e g = subst (Gives ns) e g
+
 call-gives : (d : Desk) (xs first second : List ℕ) → Gives earlyNumbers (callChecks d xs first second)
 unfolding segmentChecks
 call-gives d xs first second = search (gives-check, gives-fine) depth 8
+
+-- a segment of major 0 gives none of its own
+other-gives : (d : Desk) (xs first second : List ℕ) → segmentMajor xs ≡ 0 → Gives otherNumbers (callChecks d xs first second)
+unfolding segmentChecks
+other-gives d xs first second none = simp (eq-eqb _ _ none) (search (gives-check, gives-fine) depth 8)
 
 ensembles-give : (e s n : ℕ) (ys : List ℕ) → Gives chunkNumbers (ensemblesChecks e s n ys)
 unfolding ensemblesChecks
@@ -78,10 +97,6 @@ Refusing P (Refused f) = P f
 pub slot-fits : (k : Kind) (d : Desk) → wellFormed d ≡ true → slotFits (slotFor k (d .marks)) (bytesFor k d) ≡ true
 slot-fits k d w = kind-fits k d w .1
 
-at-cond : (P : Outcome → Type 0) (t : Bool) (x y : Outcome) → (t ≡ true → P x) → (t ≡ false → P y) → P (cond t x y)
-at-cond P true x y a b = a refl
-at-cond P false x y a b = b refl
-
 module _ (d : Desk) (xs first second : List ℕ) where
   abbrev k : Kind
   k = segmentKind xs
@@ -92,79 +107,100 @@ module _ (d : Desk) (xs first second : List ℕ) where
   abbrev Goes : After → Answer → Type 0
   Goes r a = Refusing (λ f. Leaves f d xs first second r) a
 
-  abbrev Ends : Outcome → Type 0
-  Ends o = let r = takenBy k d xs first second in Takes k d first second o r → Goes r (o .answer)
-
-  chunk-short : wellFormed d ≡ true → length (chunkIn (hold xs before)) ≤ longestChunk
-  chunk-short w =
-      let s = hold xs before in
-      omega (arith, length-take (payloadBytes * (s .slot .last + 1)) (s .bytes), length-sets (before .bytes) (payloadBytes * numberIn xs) (payloadIn xs), slot-numbers (before .slot) (before .bytes) (slot-fits k d w) .0)
-
-  judged-ends : (v : Checked) → Gives chunkNumbers v → missingIn (hold xs before .slot) ≡ 0 → Ends (judged v k (hold xs before))
-  unfolding Gives
-  judged-ends (Fault f) g z h = completes g z (unlisted-becomes h (λ n. refl) refl)
-  judged-ends Fine g z h = tt
-
-  gathered-ends : wellFormed d ≡ true → Ends (gathered k xs before)
-  unfolding gathered completed
-  gathered-ends w =
-      let chunk = chunkIn (hold xs before) in
-      at-cond Ends (clashing (before .slot) (before .bytes) xs) _ _ (λ c h. spoils refl (unlisted-becomes h (λ n. refl) refl))
-      (λ c.
-      at-cond Ends (holds (before .slot .held) (numberIn xs)) _ _ (λ b h. tt)
-      (λ b.
-      at-cond Ends (eqb (missingIn (hold xs before .slot)) 0) _ _
-      (λ z. judged-ends _ (kind-gives (checks chunk) k chunk (chunk-gives chunk (chunk-short w))) (eqb-true _ _ z))
-      (λ z h. tt)))
-
-  segment-ends : Goes (segmentAfter d xs first second) (segmentAfter d xs first second .answer)
-  unfolding Gives
-  segment-ends =
-      segment-cases d xs first second (λ r. Goes r (r .answer))
-      (λ f e. unchanged (subst (Gives earlyNumbers) e (call-gives d xs first second)) refl)
-      (λ y fine.
+  -- what comes to the slot goes so
+  taken-goes : Ready d first second → segmentChecks xs ≡ Fine → Goes (takenBy k d xs first second) (takenBy k d xs first second .answer)
+  taken-goes y fine =
+      let r = takenBy k d xs first second in
       let h = takes k d xs first second (y .formed) fine in
-      subst (Goes (takenBy k d xs first second)) (sym (h .answer)) (gathered-ends (y .formed) h))
+      let called = ready-called d xs first second y fine in
+      subst (Goes r) (sym (h .answer))
+      (gathered-cases (λ o. Takes k d first second o r → Goes r (o .answer)) k xs before
+      (λ c t. spoils called c refl (unlisted-becomes t (λ n. refl) refl))
+      (λ c b t. tt)
+      (λ p some t. tt)
+      (λ p z f e t. completes called (p .0) (simp (p .1, z)) e (unlisted-becomes t (λ n. refl) refl, z))
+      (λ p z e t. tt)
+      h)
+
+  segment-goes : Goes (segmentAfter d xs first second) (segmentAfter d xs first second .answer)
+  segment-goes =
+      segment-cases d xs first second (λ r. Goes r (r .answer)) (λ f e. unchanged e (refl, refl, refl)) taken-goes
 
 pub refusal-leaves : (d : Desk) (xs first second : List ℕ) (f : Refusal) → let r = segmentAfter d xs first second in r .answer ≡ Refused f → Leaves f d xs first second r
-refusal-leaves d xs first second f e = subst (Goes d xs first second (segmentAfter d xs first second)) e (segment-ends d xs first second)
+refusal-leaves d xs first second f e = subst (Goes d xs first second (segmentAfter d xs first second)) e (segment-goes d xs first second)
 
 -- ---- the numbers of refusals
 
--- numbers that are all among others
-within : (ms ns : List ℕ) (n : ℕ) → Each (λ m. T (among ns m)) ms → T (among ms n) → T (among ns n)
-within [] ns n h t = absurd t
-within (m ∷ ms) ns n h t =
-    either (eqb n m) (λ q. rw (eqb-true n m q) (h .0)) (λ q. within ms ns n (h .1) (simp q at t))
+-- what is so of some numbers is so of each among them
+of-each : (P : ℕ → Type 0) (ms : List ℕ) (n : ℕ) → Each P ms → T (among ms n) → P n
+of-each P [] n h t = absurd t
+of-each P (m ∷ ms) n h t =
+    either (eqb n m) (λ q. rw (eqb-true n m q) (h .0)) (λ q. of-each P ms n (h .1) (simp q at t))
 
-pub refusal-numbers : (d : Desk) (xs first second : List ℕ) (f : Refusal) → segmentAfter d xs first second .answer ≡ Refused f → T (among (1 ∷ 2 ∷ 3 ∷ 4 ∷ 5 ∷ 6 ∷ 7 ∷ 9 ∷ 10 ∷ 11 ∷ 12 ∷ []) (numberOf f))
-refusal-numbers d xs first second f e = go (refusal-leaves d xs first second f e)
+module _ (d : Desk) (xs first second : List ℕ) (f : Refusal) where
+  early-number : callChecks d xs first second ≡ Fault f → T (among earlyNumbers (numberOf f))
+  early-number e = given earlyNumbers e (call-gives d xs first second)
+
+  chunk-number : callChecks d xs first second ≡ Fine → chunkChecks d xs ≡ Fault f → T (among chunkNumbers (numberOf f))
+  chunk-number called e =
+      let s : Side = slotBefore d xs in
+      let chunk : List ℕ = chunkIn (slotHolding d xs) in
+      let fits = slot-numbers (s .slot) (s .bytes) (slot-fits (segmentKind xs) d (called-ready d xs first second called .0 .formed)) .0 in
+      let short : length chunk ≤ longestChunk =
+      omega (arith, length-take (payloadBytes * (slotHolding d xs .slot .last + 1)) (slotHolding d xs .bytes), length-sets (s .bytes) (payloadBytes * numberIn xs) (payloadIn xs)) in
+      given chunkNumbers e (kind-gives (checks chunk) (segmentKind xs) chunk (chunk-gives chunk short))
+
+  -- 5 of the call's own checks is the segment's major
+  own-major : callChecks d xs first second ≡ Fault f → numberOf f ≡ 5 → segmentMajor xs ≡ 0 → ⊥
+  own-major e five none = rw five at (given otherNumbers e (other-gives d xs first second none))
+
+  pub refusal-number : segmentAfter d xs first second .answer ≡ Refused f → T (among (1 ∷ 2 ∷ 3 ∷ 4 ∷ 5 ∷ 6 ∷ 7 ∷ 9 ∷ 10 ∷ 11 ∷ 12 ∷ []) (numberOf f))
+  refusal-number e = go (refusal-leaves d xs first second f e)
+    where
+      all : List ℕ
+      all = 1 ∷ 2 ∷ 3 ∷ 4 ∷ 5 ∷ 6 ∷ 7 ∷ 9 ∷ 10 ∷ 11 ∷ 12 ∷ []
+
+      go : {r : After} → Leaves f d xs first second r → T (among all (numberOf f))
+      go (unchanged c same) = of-each (λ n. T (among all n)) earlyNumbers (numberOf f) (search) (early-number c)
+      go (spoils called c is b) = rw is tt
+      go (completes called c z refused b) = of-each (λ n. T (among all n)) chunkNumbers (numberOf f) (search) (chunk-number called refused)
+
+-- by its number
+pub refusal-changes : (d : Desk) (xs first second : List ℕ) (f : Refusal) → let r = segmentAfter d xs first second in r .answer ≡ Refused f → Changes (numberOf f) d xs first second r
+refusal-changes d xs first second f e = go (refusal-leaves d xs first second f e)
   where
-    all : List ℕ
-    all = 1 ∷ 2 ∷ 3 ∷ 4 ∷ 5 ∷ 6 ∷ 7 ∷ 9 ∷ 10 ∷ 11 ∷ 12 ∷ []
+    apart : (ms ns : List ℕ) → Each (λ m. T (among ns m) → ⊥) ms → T (among ms (numberOf f)) → T (among ns (numberOf f)) → ⊥
+    apart ms ns h = of-each (λ n. T (among ns n) → ⊥) ms (numberOf f) h
 
-    go : {r : After} → Leaves f d xs first second r → T (among all (numberOf f))
-    go (unchanged m same) = within earlyNumbers all (numberOf f) (search) m
-    go (spoils seven b) = rw seven tt
-    go (completes m z b) = within chunkNumbers all (numberOf f) (search) m
+    go : {r : After} → Leaves f d xs first second r → Changes (numberOf f) d xs first second r
+    go (unchanged c same) =
+        let m = early-number d xs first second f c in
+        record {
+          nothing = λ t. same;
+          clash = λ seven. absurd (rw seven at m);
+          chunk = λ t. absurd (apart earlyNumbers (9 ∷ 10 ∷ 11 ∷ []) (search) m t);
+          header = λ five differs. same;
+          major = λ five none. absurd (own-major d xs first second f c five none);
+        }
+    go (spoils called c is b) =
+        record {
+          nothing = λ t. absurd (rw is at t);
+          clash = λ seven. b;
+          chunk = λ t. absurd (rw is at t);
+          header = λ five. absurd (omega (arith, ap numberOf is));
+          major = λ five. absurd (omega (arith, ap numberOf is));
+        }
+    go (completes called c z refused b) =
+        let m = chunk-number d xs first second f called refused in
+        record {
+          nothing = λ t. absurd (apart chunkNumbers otherNumbers (search) m t);
+          clash = λ seven. absurd (rw seven at m);
+          chunk = λ t. b;
+          header = λ five differs. absurd (differs (segment-passes xs (called-ready d xs first second called .1) .2));
+          major = λ five none. b;
+        }
 
 -- ---- exactly when
-
-judged-fault : (v : Checked) (k : Kind) (s : Side) → answerFault (judged v k s .answer) ≡ v
-judged-fault (Fault f) k s = refl
-judged-fault Fine k s = refl
-
--- a slot that is not told what the buffer has
-gathered-fault : (k : Kind) (xs : List ℕ) (s : Side) → let chunk = chunkIn (hold xs s) in answerFault (gathered k xs s .answer) ≡ check (clashing (s .slot) (s .bytes) xs) Clash (cond (not (holds (s .slot .held) (numberIn xs)) && eqb (missingIn (hold xs s .slot)) 0) (kindChecks (checks chunk) k chunk) Fine)
-unfolding gathered completed
-gathered-fault k xs s =
-    let chunk = chunkIn (hold xs s) in
-    either (clashing (s .slot) (s .bytes) xs) (λ c. simp c)
-    (λ c.
-    either (holds (s .slot .held) (numberIn xs)) (λ h. simp (c, h))
-    (λ h.
-    either (eqb (missingIn (hold xs s .slot)) 0) (λ z. simp (c, h, z) (judged-fault (kindChecks (checks chunk) k chunk) k (hold xs s)))
-    (λ z. simp (c, h, z))))
 
 pub answer-exactly : (d : Desk) (xs first second : List ℕ) → answerFault (segmentAfter d xs first second .answer) ≡ segmentFault d xs first second
 unfolding segmentFault
@@ -172,10 +208,15 @@ answer-exactly d xs first second =
     let k : Kind = segmentKind xs in
     segment-cases d xs first second (λ r. answerFault (r .answer) ≡ segmentFault d xs first second) (λ f e. simp e)
     (λ y fine.
-    let called : callChecks d xs first second ≡ Fine = simp (y .formed, le-ltb _ _ (y .left), le-ltb _ _ (y .right), fine) in
-    ap answerFault (takes k d xs first second (y .formed) fine .answer)
-    ∙ gathered-fault k xs (own k d first second)
-    ∙ sym (simp called))
+    let h = takes k d xs first second (y .formed) fine in
+    let called = ready-called d xs first second y fine in
+    ap answerFault (h .answer)
+    ∙ gathered-cases (λ o. answerFault (o .answer) ≡ segmentFault d xs first second) k xs (own k d first second)
+    (λ c. simp (called, c))
+    (λ c b. simp (called, c, b))
+    (λ p some. simp (called, p .0, p .1, ne-eqb _ _ some))
+    (λ p z f e. simp (called, p .0, p .1, z, e))
+    (λ p z e. simp (called, p .0, p .1, z, e)))
 
 -- ---- a repeat, and a spoiled slot
 

@@ -73,7 +73,7 @@ takes Next d xs first second w fine =
 
 module _ {k : Kind} {d : Desk} {first second : List ℕ} {o : Outcome} {r : After} (h : Takes k d first second o r) where
   -- an outcome that lists nothing and has the buffer as it was
-  pub unlisted-becomes : ((n : ℕ) → lengthAfter (o .answer) n ≡ n) → o .side .buffer ≡ own k d first second .buffer → Becomes k d first second (o .side .slot) (o .side .bytes) r
+  pub unlisted-becomes : ((n : ℕ) → lengthAfter (o .answer) n ≡ n) → o .side .buffer ≡ own k d first second .buffer → Becomes k d first second (o .side) r
   unlisted-becomes none same =
       let l = both-roles (λ b. b) k (d .marks .swapped) (r .first) (r .second) first second (h .buffer ∙ same) (h .other .3) in
       (h .slot, h .bytes, h .size ∙ none _, l .0, l .1)
@@ -121,6 +121,10 @@ module _ (d : Desk) (xs first second : List ℕ) where
       go : (v : Checked) → callChecks d xs first second ≡ v → P (answeredBy v d xs first second)
       go (Fault f) e = refused f e
       go Fine e = let p = called-ready e in taken (p .0) (p .1)
+
+  -- and the other way round
+  pub ready-called : Ready d first second → segmentChecks xs ≡ Fine → callChecks d xs first second ≡ Fine
+  ready-called y fine = simp (y .formed, le-ltb _ _ (y .left), le-ltb _ _ (y .right), fine)
 
   -- on a desk that is ready, by the checks on the segment itself
   pub ready-answered : Ready d first second → segmentAfter d xs first second ≡ answeredBy (segmentChecks xs) d xs first second

@@ -8,7 +8,7 @@ use meaning::TS_RECORD;
 use slots::Answer;
 use slots::Slot;
 ghost use mathlib.Core.Path.{_≡_};
-ghost use mathlib.Core.Bool.{true, false, not};
+ghost use mathlib.Core.Bool.{true, false, not, _||_};
 ghost use mathlib.Core.List.{_++_};
 ghost use Prim.Native.Nat.{_+_, _≤_};
 ghost use lib.ListN.{length, take};
@@ -16,7 +16,7 @@ ghost use lib.ListN.{length as List·length};
 ghost use denote.Ref.{ptr};
 ghost use Rattle.meaning.specs.Sizes.{longestChunk, longestListing};
 ghost use Rattle.segments.specs.Segment.{segmentChecks};
-ghost use Rattle.desk.specs.Desks.{desk as Desks·desk, emptied as Desks·emptied, fresh as Desks·fresh, lengthFits, wellFormed, slotFor, newGathering, newFrame, after, marksWith, takenBy, segmentAfter, lengthAfter, firstServes, lentFor, shownLength, shown as Desks·shown};
+ghost use Rattle.desk.specs.Desks.{desk as Desks·desk, emptied as Desks·emptied, fresh as Desks·fresh, lengthFits, wellFormed, slotFor, lengthFor, newGathering, newFrame, after, marksWith, takenBy, segmentAfter, lengthAfter, tooShort, firstServes, lentFor, shownLength, shown as Desks·shown};
 ghost use Rattle.slots.specs.Slots.{emptySlot, noBytes};
 
 // The desk's numbers: the slots, the lengths of the listings for this frame and for the next (0 is none), and whether the second buffer
@@ -172,6 +172,16 @@ fn own(kind: Kind, marks: Marks) -> Slot
     }
 }
 
+// The length of a kind's listing.
+fn listed_for(kind: Kind, marks: Marks) -> usize
+    ensures { λ r. ⌜ r ≡ lengthFor kind marks ⌝ }
+{
+    match kind {
+        Kind::This => marks.shown,
+        Kind::Next => marks.coming,
+    }
+}
+
 // Where the bytes of a kind's slot begin.
 fn start_of(kind: Kind) -> usize
     ensures { λ r. ⌜ (kind ≡ Kind.This → r ≡ 0) × (kind ≡ Kind.Next → r ≡ longestChunk) ⌝ }
@@ -216,14 +226,17 @@ fn first_serves(kind: Kind, swapped: bool) -> bool
     }
 }
 
-// The refusal of a short buffer.
-fn short(marks: Marks) -> Driven
-    ensures { λ r. ⌜ (r .answer ≡ Answer.Refused Refusal.ShortBuffer) × (r .marks ≡ marks) ⌝ }
+// Whether both lent buffers are long enough.
+fn roomy(first: &[u8], second: &[u8]) -> bool
+    ensures { λ r. ⌜ r ≡ not (tooShort (now (first .entry)) || tooShort (now (second .entry))) ⌝ }
 {
-    Driven {
-        answer: Answer::Refused(Refusal::ShortBuffer),
-        marks: marks,
+    if first.len() < LONGEST_LISTING {
+        return false;
     }
+    if second.len() < LONGEST_LISTING {
+        return false;
+    }
+    true
 }
 
 // A segment that passed the checks on itself comes to the slot of its kind.
@@ -258,7 +271,8 @@ fn steer(
     }
 }
 
-// A segment comes to a well formed desk whose bytes are lent in place. Internal: for callers that make many calls.
+// A segment comes to a well formed desk whose bytes are lent in place, with buffers that are long enough. Internal: for callers that make many
+// calls.
 pub fn drive(
     marks: Marks,
     bytes: &mut [u8],
@@ -266,15 +280,9 @@ pub fn drive(
     first: &mut [u8],
     second: &mut [u8],
 ) -> Driven
-    requires { ⌜ wellFormed (Desks·desk marks (now bytes)) ≡ true ⌝ }
+    requires { ⌜ (wellFormed (Desks·desk marks (now bytes)) ≡ true) × (longestListing ≤ length (now first)) × (longestListing ≤ length (now second)) ⌝ }
     ensures { λ r. ⌜ after (r .answer) (Desks·desk (r .marks) (now (bytes .exit))) (now (first .exit)) (now (second .exit)) ≡ segmentAfter (Desks·desk marks (now (bytes .entry))) (now (seg .entry)) (now (first .entry)) (now (second .entry)) ⌝ }
 {
-    if first.len() < LONGEST_LISTING {
-        return short(marks);
-    }
-    if second.len() < LONGEST_LISTING {
-        return short(marks);
-    }
     match segments::check_segment(seg) {
         Checked::Fault(refusal) => Driven {
             answer: Answer::Refused(refusal),
@@ -340,9 +348,17 @@ impl Desk {
     pub fn segment(self, seg: &[u8], first: &mut [u8], second: &mut [u8]) -> Taken
         ensures { λ r. ⌜ after (r .answer) (r .desk) (now (first .exit)) (now (second .exit)) ≡ segmentAfter self (now (seg .entry)) (now (first .entry)) (now (second .entry)) ⌝ }
     {
-        if !self.well_formed() {
+        let formed = self.well_formed();
+        let long = roomy(first, second);
+        if !formed {
             return Taken {
                 answer: Answer::Refused(Refusal::BadDesk),
+                desk: self,
+            };
+        }
+        if !long {
+            return Taken {
+                answer: Answer::Refused(Refusal::ShortBuffer),
                 desk: self,
             };
         }
@@ -364,20 +380,11 @@ impl Desk {
     fn shown_length(self, kind: Kind, first: &[u8], second: &[u8]) -> usize
         ensures { λ r. ⌜ r ≡ shownLength kind self (now (first .entry)) (now (second .entry)) ⌝ }
     {
-        if !self.well_formed() {
-            return 0;
-        }
-        if first.len() < LONGEST_LISTING {
-            return 0;
-        }
-        if second.len() < LONGEST_LISTING {
-            return 0;
-        }
+        let formed = self.well_formed();
+        let long = roomy(first, second);
         let marks = self.marks;
-        match kind {
-            Kind::This => marks.shown,
-            Kind::Next => marks.coming,
-        }
+        let length = listed_for(kind, marks);
+        if formed && long { length } else { 0 }
     }
 
     // The part of one of the two buffers that holds the listing for this frame or the next.

@@ -11,7 +11,7 @@ use Rattle.meaning.specs.declared.Kind.{Kind}
 use Rattle.meaning.specs.declared.Read.{Read}
 use Rattle.meaning.specs.declared.Read.the-variants.{Listed}
 use Rattle.meaning.specs.Sizes.{longestChunk, longestListing}
-use Rattle.meaning.specs.Numbers.{readLength}
+use Rattle.meaning.specs.Numbers.{readValues}
 use Rattle.meaning.specs.Lists.{FicList}
 use Rattle.meaning.specs.Layout.{wire, Carries}
 use Rattle.meaning.specs.Listing.{listing}
@@ -129,7 +129,7 @@ module _ {ys : List ℕ} {k : Kind} {m : ℕ} {l : FicList} (h : Carries ys k m 
   carried-listed : (buffer : List ℕ) → longestListing ≤ length buffer → listedBy ys buffer ≡ listing l
   carried-listed buffer long =
       let s = carried-says h buffer long in
-      ap₂ (λ (r : Read) (t : List ℕ). take (readLength r) t) (sym (s .answers)) (sym (s .leaves)) ∙ take-append-seam (listing l) (drop (length (listing l)) buffer)
+      ap₂ (λ (r : Read) (t : List ℕ). take (readValues r .length) t) (sym (s .answers)) (sym (s .leaves)) ∙ take-append-seam (listing l) (drop (length (listing l)) buffer)
 
   pub carried-short : plainLength l ≤ longestChunk
   carried-short = omega (arith, carried-room h, h .allowed .room, ap length (h .bytes))

@@ -5,7 +5,7 @@ use mathlib.Core.Bool.{Bool}
 use mathlib.Core.List.{List, [], _∷_, _++_, flatMap}
 use lib.ListN.{length, take, drop}
 use Rattle.meaning.specs.declared.Kind.{Kind}
-use Rattle.meaning.specs.Numbers.{readLength}
+use Rattle.meaning.specs.Numbers.{readValues}
 use Rattle.meaning.specs.Reading.{readAnswer, readBuffer}
 use Rattle.segments.specs.Segment.{segmentBytes, payloadIn}
 use Rattle.slots.specs.declared.Answer.{Answer}
@@ -80,4 +80,4 @@ payloadsOf segments = flatMap payloadIn segments
 
 -- what the reader leaves of a chunk, up to the length that it answers
 abbrev pub listedBy : List ℕ → List ℕ → List ℕ
-listedBy chunk buffer = take (readLength (readAnswer chunk buffer)) (readBuffer chunk buffer)
+listedBy chunk buffer = take (readValues (readAnswer chunk buffer) .length) (readBuffer chunk buffer)

@@ -25,7 +25,7 @@ use Rattle.slots.specs.Slots.{noBytes}
 use Rattle.desk.specs.declared.Marks.{Marks}
 use Rattle.desk.specs.declared.Desk.{Desk}
 use Rattle.desk.specs.Desks.{desk, emptied, wellFormed, newFrame, newGathering, lentFor, After, after, segmentAfter, shownLength, shown}
-use Rattle.desk.proofs.Laws.{frame-fit, shown-both, shown-is}
+use Rattle.desk.proofs.Laws.{frame-fit, both-long, shown-long, shown-is}
 use Rattle.desk.proofs.Keeps.{frame-fits}
 use Rattle.desk.proofs.Frames.{listed-shown, shown-fits, shown-small}
 use Rattle.lines.specs.declared.Entry.{Entry}
@@ -113,7 +113,7 @@ module _ (m n : Marks) (bytes first second : List ℕ) (fit : wellFormed (desk m
   framed-fits = ap wellFormed framed ∙ frame-fits (desk m bytes)
 
   pub framed-length : n .shown ≡ shownLength This (desk n (noBytes ++ noBytes)) first second
-  framed-length = shown-both This (desk n (noBytes ++ noBytes)) first second framed-fits one two
+  framed-length = shown-long This (desk n (noBytes ++ noBytes)) first second framed-fits (sym (both-long first second one two))
 
   pub framed-room : n .shown ≤ length (lentFor This (n .swapped) first second)
   framed-room = omega (arith, framed-length, shown-fits This (desk n (noBytes ++ noBytes)) first second)

@@ -7,7 +7,7 @@ use mathlib.Core.Logic.{_⊎_, inl, inr}
 use Prim.Native.Nat.{ℕ, zero, suc, _+_, _-_, _≤_, _<_}
 use native.Mathlib.Nat.{sub-zero}
 use native.Mathlib.Omega.{arith}
-use borrow.Author.Tests.{ltb-false, le-ltb, leb-true, leb-false, le-leb, lt-leb, eqb-true, ne-eqb}
+use borrow.Author.Tests.{ltb-true, ltb-false, le-ltb, leb-true, leb-false, le-leb, lt-leb, eqb-true, ne-eqb}
 use lib.Dec.{eqb, leb, ltb}
 use lib.ListN.{length, getD, drop, length-append, length-take, length-drop, List·getD-append}
 use lib.Seq.{take-append-le, drop-append-le, drop-drop}
@@ -127,6 +127,33 @@ module _ (xs rest : List ℕ) where
   segment-more h =
       rw (drop-append-le markBytes xs rest (omega arith))
       (take-append-le segmentBytes (drop markBytes xs) rest (omega (arith, length-drop markBytes xs)))
+
+-- the end and a cut record are shorter than the longest record, and an unknown mark stays one whatever comes after it
+abbrev pub Tells : Entry → List ℕ → Type 0
+Tells End xs = length xs < markBytes + segmentBytes
+Tells Cut xs = length xs < markBytes + segmentBytes
+Tells Unknown xs = (rest : List ℕ) → entryIn (xs ++ rest) ≡ Unknown
+Tells Frame xs = Unit {0}
+Tells Gathering xs = Unit {0}
+Tells Segment xs = Unit {0}
+
+pub entry-tells : (xs : List ℕ) → Tells (entryIn xs) xs
+unfolding entryIn
+entry-tells xs =
+    let mark : ℕ = markIn xs in
+    either (eqb (length xs) 0) (λ z. simp z (omega (arith, eqb-true)))
+    (λ z.
+    either (ltb (length xs) markBytes) (λ l. simp (z, l) (omega (arith, ltb-true)))
+    (λ l.
+    either (eqb mark markFR) (λ f. simp (z, l, f) tt)
+    (λ f.
+    either (eqb mark markGA) (λ g. simp (z, l, f, g) tt)
+    (λ g.
+    either (eqb mark markSG)
+    (λ s.
+    either (ltb (length xs) (markBytes + segmentBytes)) (λ c. simp (z, l, f, g, s, c) (ltb-true _ _ c))
+    (λ c. simp (z, l, f, g, s, c) tt))
+    (λ s. simp (z, l, f, g, s) (λ rest. marked-more xs rest mark (ltb-false _ _ l) refl ∙ simp (f, g, s)))))))
 
 inside-more : (e : Entry) (s : State) (xs rest : List ℕ) → recordBytes e ≤ length xs → (next e s (xs ++ rest) ≡ next e s xs) × (linesFor e s (xs ++ rest) ≡ linesFor e s xs)
 unfolding next linesFor

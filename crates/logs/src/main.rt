@@ -1,32 +1,41 @@
 // Prints the transcript of each stored log that the arguments name, twice: read in blocks of one record, and in large ones.
 use libc::STDOUT_FILENO;
 
-// The longest record.
-const SMALL: usize = 39;
-
 fn say(text: &[u8]) {
     io::write_all(STDOUT_FILENO, text);
 }
 
-fn run(name: &[u8], block: &mut [u8]) {
+// Says what follows, and opens the log; below 0 where that fails.
+fn open(name: &[u8], blocks: u64) -> i32 {
     say(name);
     say(b", blocks of ");
-    io::print_decimal(STDOUT_FILENO, block.len() as u64);
+    io::print_decimal(STDOUT_FILENO, blocks);
     say(b"\n");
     let log = os::open_read(name);
     if log < 0 {
         os::fail(name);
+    }
+    log
+}
+
+fn run_slowly(name: &[u8]) {
+    let log = open(name, 39);
+    if log < 0 {
         return;
     }
-    stream::copy(log, STDOUT_FILENO, block);
+    let mut block = [0u8; 39];
+    stream::copy_slowly(log, STDOUT_FILENO, &mut block);
     libc::close(log);
 }
 
-fn run_both(name: &[u8]) {
-    let mut small = [0u8; SMALL];
-    let mut large = io::large_buffer();
-    run(name, &mut small);
-    run(name, &mut large);
+fn run(name: &[u8]) {
+    let log = open(name, 65536);
+    if log < 0 {
+        return;
+    }
+    let mut block = io::large_buffer();
+    stream::copy(log, STDOUT_FILENO, &mut block);
+    libc::close(log);
 }
 
 // The log that one argument names; false where there is none.
@@ -36,7 +45,8 @@ fn run_named(index: usize) -> bool {
     if os::errno() != 0 {
         return false;
     }
-    run_both(&name[..length]);
+    run_slowly(&name[..length]);
+    run(&name[..length]);
     true
 }
 

@@ -13,7 +13,7 @@ use Rattle.meaning.specs.declared.Refusal.the-variants.{ShortBuffer, SegmentLen
 use Rattle.meaning.specs.declared.Checked.{Checked}
 use Rattle.meaning.specs.declared.Checked.the-variants.{Fine, Fault}
 use Rattle.meaning.specs.Sizes.{longestListing}
-use Rattle.meaning.specs.Numbers.{numberOf, readNumber, readMinor, readLength}
+use Rattle.meaning.specs.Numbers.{numberOf, readValues}
 use Rattle.meaning.specs.Lists.{currentOf}
 use Rattle.meaning.specs.Listed.{listSaid}
 use Rattle.meaning.specs.Reading.{kindIn, checks, readChecks, readFor, readAnswer}
@@ -23,10 +23,10 @@ use Rattle.meaning.proofs.Listed.{said-fitting}
 use Rattle.segments.specs.Segment.{mostSegments}
 use Rattle.writer.specs.declared.Written.{Written}
 use Rattle.writer.specs.declared.Written.the-variants.{Segments, Refused}
-use Rattle.writer.specs.Writing.{writtenNumber, writtenCount, writeAnswer}
+use Rattle.writer.specs.Writing.{writtenValues, writeAnswer}
 use Rattle.writer.proofs.Answers.{segments-says}
 use Rattle.writer.proofs.Outputs.{length-segmentsOf}
-use Rattle.lukasembo.specs.Told.{readKind, readTold, writeTold}
+use Rattle.lukasembo.specs.Told.{readTold, writeTold}
 
 -- ---- small numbers
 
@@ -54,41 +54,41 @@ current-small Next = lit< tt
 -- ---- the reader
 
 module _ (xs buffer : List ℕ) where
-  pub listing-short : readLength (readAnswer xs buffer) ≤ longestListing
+  pub listing-short : readValues (readAnswer xs buffer) .length ≤ longestListing
   unfolding readAnswer
   listing-short = go (readChecks xs buffer) refl
     where
-      go : (v : Checked) → readChecks xs buffer ≡ v → readLength (readFor v xs) ≤ longestListing
+      go : (v : Checked) → readChecks xs buffer ≡ v → readValues (readFor v xs) .length ≤ longestListing
       go Fine e = listing-fits xs (check-passed (ltb (length buffer) longestListing) ShortBuffer (checks xs) e .1)
       go (Fault f) e = lit≤ tt
 
-  read-small : let a = readAnswer xs buffer in (readNumber a < 0x100) × (readKind a < 2) × (readMinor a < 8)
+  read-small : let a = readAnswer xs buffer in (readValues a .number < 0x100) × (readValues a .kind < 2) × (readValues a .minor < 8)
   unfolding readAnswer
   read-small = go (readChecks xs buffer)
     where
-      go : (v : Checked) → let a = readFor v xs in (readNumber a < 0x100) × (readKind a < 2) × (readMinor a < 8)
+      go : (v : Checked) → let a = readFor v xs in (readValues a .number < 0x100) × (readValues a .kind < 2) × (readValues a .minor < 8)
       go Fine = (lit< tt, current-small (kindIn xs), omega arith)
       go (Fault f) = (number-small f, lit< tt, lit< tt)
 
   -- the header's accessors get the parts back
-  pub read-parts : let a = readAnswer xs buffer in let r = readTold a in (r % 0x100 ≡ readNumber a) × (r / 0x100 % 2 ≡ readKind a) × (r / 0x200 % 8 ≡ readMinor a) × (r / 0x10000 ≡ readLength a)
+  pub read-parts : let a = readAnswer xs buffer in let r = readTold a in (r % 0x100 ≡ readValues a .number) × (r / 0x100 % 2 ≡ readValues a .kind) × (r / 0x200 % 8 ≡ readValues a .minor) × (r / 0x10000 ≡ readValues a .length)
   read-parts = omega (arith, read-small)
 
 -- ---- the writer
 
 module _ (xs : List ℕ) (k : Kind) (output : List ℕ) where
-  pub segments-few : Bytes xs → writtenCount (writeAnswer xs k output) ≤ mostSegments
+  pub segments-few : Bytes xs → writtenValues (writeAnswer xs k output) .count ≤ mostSegments
   segments-few bytes = go (writeAnswer xs k output) refl
     where
-      go : (a : Written) → a ≡ writeAnswer xs k output → writtenCount a ≤ mostSegments
+      go : (a : Written) → a ≡ writeAnswer xs k output → writtenValues a .count ≤ mostSegments
       go (Segments n) e =
           let s = segments-says xs k output (record { answers = e; leaves = refl }) in
           omega (arith, s, length-segmentsOf k (listSaid xs) (said-fitting xs bytes (s .0)))
       go (Refused f) e = lit≤ tt
 
-  pub write-parts : let a = writeAnswer xs k output in let r = writeTold a in (r % 0x100 ≡ writtenNumber a) × (r / 0x10000 ≡ writtenCount a)
+  pub write-parts : let a = writeAnswer xs k output in let r = writeTold a in (r % 0x100 ≡ writtenValues a .number) × (r / 0x10000 ≡ writtenValues a .count)
   write-parts = omega (arith, small (writeAnswer xs k output))
     where
-      small : (a : Written) → writtenNumber a < 0x100
+      small : (a : Written) → writtenValues a .number < 0x100
       small (Segments n) = lit< tt
       small (Refused f) = number-small f

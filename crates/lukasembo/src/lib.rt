@@ -5,15 +5,15 @@ ghost use mathlib.Core.Path.{_≡_};
 ghost use Prim.Native.Nat.{_≤_};
 ghost use Rattle.meaning.specs.Sizes.{longestListing};
 ghost use Rattle.meaning.specs.Lists.{kindOf};
-ghost use Rattle.meaning.specs.Numbers.{readLength};
+ghost use Rattle.meaning.specs.Numbers.{readValues};
 ghost use Rattle.meaning.specs.Reading.{readAnswer, readBuffer};
 ghost use Rattle.segments.specs.Segment.{mostSegments};
-ghost use Rattle.writer.specs.Writing.{writtenCount, writeAnswer, writeOutput};
+ghost use Rattle.writer.specs.Writing.{writtenValues, writeAnswer, writeOutput};
 ghost use Rattle.lukasembo.specs.Told.{readTold, writeTold};
 
 // The reader's answer as one number.
 fn read_told(answer: Read) -> u64
-    requires { ⌜ readLength answer ≤ longestListing ⌝ }
+    requires { ⌜ readValues answer .length ≤ longestListing ⌝ }
     ensures { λ r. ⌜ r ≡ readTold answer ⌝ }
 {
     match answer {
@@ -31,7 +31,7 @@ fn read_told(answer: Read) -> u64
 
 // The writer's answer as one number.
 fn write_told(answer: Written) -> u64
-    requires { ⌜ writtenCount answer ≤ mostSegments ⌝ }
+    requires { ⌜ writtenValues answer .count ≤ mostSegments ⌝ }
     ensures { λ r. ⌜ r ≡ writeTold answer ⌝ }
 {
     match answer {

@@ -16,8 +16,8 @@ use Rattle.meaning.specs.declared.Checked.the-variants.{Fine, Fault}
 use Rattle.meaning.specs.declared.Read.{Read}
 use Rattle.meaning.specs.declared.Read.the-variants.{Listed, Refused}
 use Rattle.meaning.specs.Sizes.{longestChunk, headerBytes, ensembleBytes, longestListing}
-use Rattle.meaning.specs.Numbers.{numberOf, readNumber, readMinor, readLength, among, readFault}
-use Rattle.meaning.specs.Lists.{FicList}
+use Rattle.meaning.specs.Numbers.{numberOf, readValues, among, readFault}
+use Rattle.meaning.specs.Lists.{FicList, currentOf}
 use Rattle.meaning.specs.Layout.{Carries}
 use Rattle.meaning.specs.Listing.{listing}
 use Rattle.meaning.specs.Reading.{check, checks, ensemblesChecks, majorIn, hIn, versionIn, servicesRoom, inside, past, eIn, sIn, countIn, payload, kindIn, minorIn, listIn, readChecks, readFor, readAnswer, leftBy, readBuffer, ReadSays}
@@ -157,20 +157,24 @@ checks-among xs =
     (among-check chunkNumbers (not (eqb (majorIn xs) 0)) OtherMajor _ tt
     (among-check chunkNumbers (ltb (length xs) (headerBytes + hIn xs)) EndsEarly _ tt (ensembles-among (eIn xs) (sIn xs) (countIn xs) (payload xs)))))
 
--- a refusal is one of five numbers, with every count 0, and writes nothing
-pub refused-says : {xs before after : List ℕ} {f : Refusal} → ReadSays xs before (Refused f) after → T (among (1 ∷ 5 ∷ 8 ∷ 9 ∷ 11 ∷ []) (readNumber (Refused f))) × (readMinor (Refused f) ≡ 0) × (readLength (Refused f) ≡ 0) × (after ≡ before)
+-- a refusal is one of five numbers, with every other value 0, and writes nothing
+pub refusal-values : (xs before : List ℕ) {f : Refusal} → readChecks xs before ≡ Fault f → T (among (1 ∷ 5 ∷ 8 ∷ 9 ∷ 11 ∷ []) (numberOf f)) × (readValues (readAnswer xs before) ≡ record { number = numberOf f; kind = 0; minor = 0; length = 0 }) × (readBuffer xs before ≡ before)
 unfolding readAnswer readBuffer
-refused-says {xs} {before} {after} {f} s = (
-  go (ltb (length before) longestListing) (checks xs) (checks-among xs) (sym (s .answers)),
-  refl,
-  refl,
-  s .leaves ∙ ap (λ (r : Read). leftBy r xs before) (sym (s .answers)),
+refusal-values xs before {f} e = (
+  go (ltb (length before) longestListing) e,
+  ap (λ (v : Checked). readValues (readFor v xs)) e,
+  ap (λ (v : Checked). leftBy (readFor v xs) xs before) e,
 )
   where
-    go : (t : Bool) (v : Checked) → ((g : Refusal) → v ≡ Fault g → T (among chunkNumbers (numberOf g))) → readFor (check t ShortBuffer v) xs ≡ Refused f → T (among (1 ∷ chunkNumbers) (numberOf f))
-    go true v a p = let same : ShortBuffer ≡ f = cc in subst (λ (x : Refusal). T (among (1 ∷ chunkNumbers) (numberOf x))) same tt
-    go false Fine a p = let z : _≡_ {A = ℕ} 0 1 = cc in absurd (omega arith)
-    go false (Fault g) a p = let same : g ≡ f = cc in among-more 1 chunkNumbers (numberOf f) (a f (ap Fault same))
+    go : (t : Bool) → check t ShortBuffer (checks xs) ≡ Fault f → T (among (1 ∷ chunkNumbers) (numberOf f))
+    go true p = let same : ShortBuffer ≡ f = cc in subst (λ (x : Refusal). T (among (1 ∷ chunkNumbers) (numberOf x))) same tt
+    go false p = among-more 1 chunkNumbers (numberOf f) (checks-among xs f p)
+
+-- and a chunk that carries a list has number 0 and the values of its list
+pub carried-values : {xs : List ℕ} {k : Kind} {m : ℕ} {l : FicList} → Carries xs k m l → (before : List ℕ) → longestListing ≤ length before → (readValues (readAnswer xs before) ≡ record { number = 0; kind = currentOf k; minor = m; length = length (listing l) }) × (readBuffer xs before ≡ listing l ++ drop (length (listing l)) before)
+carried-values h before room =
+    let s = carried-says h before room in
+    (ap readValues (sym (s .answers)), sym (s .leaves))
 
 pub says-major : (xs before : List ℕ) → longestListing ≤ length before → 2 ≤ length xs → length xs ≤ longestChunk → (majorIn xs ≡ 0 → ⊥) → ReadSays xs before (Refused OtherMajor) before
 says-major xs before room two longest other = says-refused xs before room (checks-major xs longest two other)

@@ -10,7 +10,7 @@ use Rattle.meaning.specs.declared.Checked.the-variants.{Fine}
 use Rattle.meaning.specs.declared.Read.{Read}
 use Rattle.meaning.specs.declared.Read.the-variants.{Listed, Refused}
 use Rattle.meaning.specs.Sizes.{longestListing}
-use Rattle.meaning.specs.Numbers.{readNumber, readMinor, readLength}
+use Rattle.meaning.specs.Numbers.{readValues}
 use native.Mathlib.Omega.{arith}
 use Rattle.octets.specs.Bits.{bits, laid, number, octets, bytesOf}
 use Rattle.meaning.specs.Layout.{Chunk, serviceFields, ensembleFields, chunkFields, wire, Carries}
@@ -38,10 +38,10 @@ given xs =
     let answer = readAnswer xs buffer in
     record {
       chunk = xs;
-      number = readNumber answer;
+      number = readValues answer .number;
       kind = kindOfAnswer answer;
-      minor = readMinor answer;
-      listed = take (readLength answer) (readBuffer xs buffer);
+      minor = readValues answer .minor;
+      listed = take (readValues answer .length) (readBuffer xs buffer);
     }
 
 accepted : ℕ → List ℕ → List ℕ → Sample

@@ -1,6 +1,6 @@
 pub mod Sizes
-pub mod Numbers
 pub mod Lists
+pub mod Numbers
 pub mod Layout
 pub mod Listing
 pub mod Reading

@@ -9,6 +9,7 @@ use Rattle.meaning.specs.declared.Checked.{Checked}
 use Rattle.meaning.specs.declared.Checked.the-variants.{Fine, Fault}
 use Rattle.meaning.specs.declared.Read.{Read}
 use Rattle.meaning.specs.declared.Read.the-variants.{Listed, Refused}
+use Rattle.meaning.specs.Lists.{currentOf}
 
 -- the table "The numbers"
 abbrev pub numberOf : Refusal → ℕ
@@ -28,18 +29,22 @@ numberOf BadListing = 13
 numberOf TooMany = 14
 numberOf BadLog = 15
 
--- the reader's answer: its number, 0 where it is no refusal; its minor edition and listing length, 0 where it is one
-abbrev pub readNumber : Read → ℕ
-readNumber (Listed k m n) = 0
-readNumber (Refused f) = numberOf f
+-- what some checks find: the refusal's number, 0 where they find nothing
+abbrev pub checkedNumber : Checked → ℕ
+checkedNumber Fine = 0
+checkedNumber (Fault f) = numberOf f
 
-abbrev pub readMinor : Read → ℕ
-readMinor (Listed k m n) = m
-readMinor (Refused f) = 0
+-- the reader's answer: its number, 0 where it is no refusal; the kind, 1 for this frame and 0 for the next; the minor edition; the listing's
+-- length. Where it is a refusal, all but the number are 0
+pub record ReadValues : Type 0 where
+  pub number : ℕ
+  pub kind : ℕ
+  pub minor : ℕ
+  pub length : ℕ
 
-abbrev pub readLength : Read → ℕ
-readLength (Listed k m n) = n
-readLength (Refused f) = 0
+abbrev pub readValues : Read → ReadValues
+readValues (Listed k m n) = record { number = 0; kind = currentOf k; minor = m; length = n }
+readValues (Refused f) = record { number = numberOf f; kind = 0; minor = 0; length = 0 }
 
 -- and whether it is a refusal, as checks say it
 abbrev pub readFault : Read → Checked

@@ -1,21 +1,9 @@
--- The three demands on Lukasembo, each statement proved by citing its lemma. What a reader must believe is this page and the definitions that it
--- cites, in the crates' specs/.
---
--- The public calls have no `requires`. What each says of its result, for any arguments:
---   segments::check_segment   the answer is `segmentChecks xs`
---   reader::check_chunk       the answer is `checks xs`
---   reader::read              `ReadSays xs before answer after`
---   writer::write             `WriteSays xs k before answer after`
---   typed::respond            `ReplySays text before answer after`
---   Desk::fresh               the desk is `fresh`
---   Desk::new_gathering       the desk is `newGathering d`
---   Desk::new_frame           the desk is `newFrame d`
---   Desk::segment             the answer, the desk and both buffers are `segmentAfter d xs first second`
---   Desk::show                the bytes are `shown k d first second`, and lie where `lentFor k (d .marks .swapped)` of the two buffers begins
-use mathlib.Core.Path.{_≡_, refl, sym, _∙_}
+-- The three demands on Lukasembo, each statement proved by citing its lemma. What a reader must believe is this page, the contracts that
+-- src/lib.rt repeats for each offered call, and the definitions that both cite, in the crates' specs/.
+use mathlib.Core.Path.{_≡_, sym, ap, _∙_}
 use mathlib.Core.Bool.{true, false}
 use mathlib.Core.List.{List, [], _∷_, _++_, map}
-use Prim.Native.Nat.{ℕ, _≤_, _<_}
+use Prim.Native.Nat.{ℕ, _*_, _≤_, _<_}
 use lib.Dec.{T}
 use lib.ListN.{length, take, drop}
 use Rattle.octets.specs.Bits.{Bytes}
@@ -24,30 +12,31 @@ use Rattle.meaning.specs.declared.Kind.{Kind}
 use Rattle.meaning.specs.declared.Refusal.{Refusal}
 use Rattle.meaning.specs.declared.Refusal.the-variants.{OtherMajor}
 use Rattle.meaning.specs.declared.Read.{Read}
+use Rattle.meaning.specs.declared.Checked.the-variants.{Fine, Fault}
 use Rattle.meaning.specs.declared.Read.the-variants.{Listed, Refused}
 use Rattle.meaning.specs.Sizes.{longestChunk, longestListing}
-use Rattle.meaning.specs.Numbers.{among, readFault, readNumber, readMinor, readLength}
-use Rattle.meaning.specs.Lists.{FicList}
+use Rattle.meaning.specs.Numbers.{among, numberOf, readFault, readValues}
+use Rattle.meaning.specs.Lists.{FicList, currentOf}
 use Rattle.meaning.specs.Layout.{Carries}
 use Rattle.meaning.specs.Listing.{listing}
 use Rattle.meaning.specs.Listed.{listingFits, listSaid}
 use Rattle.meaning.specs.Plain.{plainLength, Oldest}
 use Rattle.meaning.specs.Reading.{majorIn, readChecks, readAnswer, readBuffer, ReadSays}
 use Rattle.meaning.proofs.Answers as reading
-use Rattle.segments.specs.Segment.{segmentKind}
-use Rattle.segments.specs.Cut.{segmentsFor, Choice, Suits, pieceOf}
+use Rattle.segments.specs.Segment.{segmentBytes, segmentKind}
+use Rattle.segments.specs.Cut.{segmentsFor, Choice, Suits, pieceOf, joined}
 use Rattle.writer.specs.declared.Written.{Written}
 use Rattle.writer.specs.declared.Written.the-variants.{Segments, Refused as Unwritten}
-use Rattle.writer.specs.Writing.{shortestOutput, writtenFault, writtenNumber, writtenCount, writeChecks, writeAnswer, writeOutput, WriteSays}
+use Rattle.writer.specs.Writing.{shortestOutput, writtenFault, writtenValues, segmentsOf, writeChecks, writeAnswer, writeOutput, WriteSays}
 use Rattle.writer.proofs.Answers as writing
-use Rattle.typed.specs.declared.Reply.{Reply}
-use Rattle.typed.specs.Typed.{ReplySays}
+use Rattle.slots.specs.declared.Answer.{Answer}
 use Rattle.slots.specs.declared.Answer.the-variants.{Missing, Listed as ListOf, Refused as Unanswered}
-use Rattle.slots.specs.Gathering.{answerFault, answerNumber, answerMissing, answerLength}
+use Rattle.slots.specs.Gathering.{answerFault, answerValues}
 use Rattle.desk.specs.declared.Desk.{Desk}
-use Rattle.desk.specs.Desks.{fresh, wellFormed, otherKind, newGathering, newFrame, after, segmentAfter}
-use Rattle.desk.specs.Effects.{Kept, segmentFault, Leaves}
+use Rattle.desk.specs.Desks.{fresh, wellFormed, otherKind, newGathering, newFrame, After, after, segmentAfter}
+use Rattle.desk.specs.Effects.{Kept, segmentFault, Leaves, Changes, Lists, Waits}
 use Rattle.desk.proofs.Refusals as refusals
+use Rattle.desk.proofs.Accepted as accepted
 use Rattle.desk.proofs.Keeps as desks
 use Rattle.desk.proofs.Apart as apart
 use Rattle.gatherings.specs.Deliveries.{AtStart, delivered, wholly, Comes, segmentsIn, payloadsOf, listedBy}
@@ -62,39 +51,49 @@ use Rattle.gatherings.proofs.Majors as majors
 -- ---- demand 1: every call answers; a refusal f is given exactly when the checks, in document 01's order, come to f; and what a refusal changes
 
 module _ (xs before : List ℕ) where
-  pub read-answers : ReadSays xs before (readAnswer xs before) (readBuffer xs before)
-  read-answers = record { answers = refl; leaves = refl }
-
   pub read-exactly : readFault (readAnswer xs before) ≡ readChecks xs before
   read-exactly = reading.answer-exactly xs before
 
-  pub read-refused : {f : Refusal} {left : List ℕ} → ReadSays xs before (Refused f) left → T (among (1 ∷ 5 ∷ 8 ∷ 9 ∷ 11 ∷ []) (readNumber (Refused f))) × (readMinor (Refused f) ≡ 0) × (readLength (Refused f) ≡ 0) × (left ≡ before)
-  read-refused = reading.refused-says
+  -- a refusal is one of these numbers, every other value is 0, and nothing is written
+  pub read-refused : {f : Refusal} → readChecks xs before ≡ Fault f → T (among (1 ∷ 5 ∷ 8 ∷ 9 ∷ 11 ∷ []) (numberOf f)) × (readValues (readAnswer xs before) ≡ record { number = numberOf f; kind = 0; minor = 0; length = 0 }) × (readBuffer xs before ≡ before)
+  read-refused = reading.refusal-values xs before
 
 module _ (xs : List ℕ) (k : Kind) (before : List ℕ) where
-  pub write-answers : WriteSays xs k before (writeAnswer xs k before) (writeOutput xs k before)
-  write-answers = record { answers = refl; leaves = refl }
-
   pub write-exactly : writtenFault (writeAnswer xs k before) ≡ writeChecks xs before
   write-exactly = writing.answer-exactly xs k before
 
-  pub write-refused : {f : Refusal} {left : List ℕ} → WriteSays xs k before (Unwritten f) left → T (among (1 ∷ 13 ∷ 14 ∷ []) (writtenNumber (Unwritten f))) × (writtenCount (Unwritten f) ≡ 0) × (left ≡ before)
-  write-refused = writing.refused-says xs k before
+  pub write-refused : {f : Refusal} → writeChecks xs before ≡ Fault f → T (among (1 ∷ 13 ∷ 14 ∷ []) (numberOf f)) × (writtenValues (writeAnswer xs k before) ≡ record { number = numberOf f; count = 0 }) × (writeOutput xs k before ≡ before)
+  write-refused = writing.refusal-values xs k before
+
+  -- and a listing that passes has number 0 and its segments, at the start of the output; bytes past them stay
+  pub write-accepted : writeChecks xs before ≡ Fine → let s = segmentsOf k (listSaid xs) in (writtenValues (writeAnswer xs k before) ≡ record { number = 0; count = length s }) × (writeOutput xs k before ≡ joined s ++ drop (segmentBytes * length s) before)
+  write-accepted = writing.written-values xs k before
 
 module _ (d : Desk) (xs first second : List ℕ) where
-  pub segment-exactly : answerFault (segmentAfter d xs first second .answer) ≡ segmentFault d xs first second
+  abbrev r : After
+  r = segmentAfter d xs first second
+
+  pub segment-exactly : answerFault (r .answer) ≡ segmentFault d xs first second
   segment-exactly = refusals.answer-exactly d xs first second
 
-  -- it changes nothing; or it is 7 and spoils its slot; or it is 5, 9, 10 or 11, and its slot is complete: there is no other effect
-  pub segment-refused : (f : Refusal) → segmentAfter d xs first second .answer ≡ Unanswered f → let a = Unanswered f in T (among (1 ∷ 2 ∷ 3 ∷ 4 ∷ 5 ∷ 6 ∷ 7 ∷ 9 ∷ 10 ∷ 11 ∷ 12 ∷ []) (answerNumber a)) × (answerMissing a ≡ 0) × (answerLength a ≡ 0) × Leaves f d xs first second (segmentAfter d xs first second)
-  segment-refused f e = (refusals.refusal-numbers d xs first second f e, refl, refl, refusals.refusal-leaves d xs first second f e)
+  module _ (f : Refusal) (is : r .answer ≡ Unanswered f) where
+    pub segment-refused : T (among (1 ∷ 2 ∷ 3 ∷ 4 ∷ 5 ∷ 6 ∷ 7 ∷ 9 ∷ 10 ∷ 11 ∷ 12 ∷ []) (numberOf f)) × (answerValues (r .answer) ≡ record { number = numberOf f; missing = 0; kind = 0; length = 0 })
+    segment-refused = (refusals.refusal-number d xs first second f is, ap answerValues is)
+
+    -- by the checks that gave it, it changes nothing, spoils its slot, or completes it: there is no other way
+    pub segment-leaves : Leaves f d xs first second r
+    segment-leaves = refusals.refusal-leaves d xs first second f is
+
+    -- and by its number: which numbers go which way
+    pub segment-changes : Changes (numberOf f) d xs first second r
+    segment-changes = refusals.refusal-changes d xs first second f is
 
   -- and whatever the answer, the other kind keeps its slot, its listing's length and its buffer, and the buffers keep their roles
-  pub segment-apart : Kept (d .marks .swapped) (otherKind (segmentKind xs)) d first second (segmentAfter d xs first second)
+  pub segment-apart : Kept (d .marks .swapped) (otherKind (segmentKind xs)) d first second r
   segment-apart = apart.other-kept d xs first second
 
   -- whatever comes, a well formed desk stays so; and new gathering and new frame make any desk well formed
-  pub segment-well-formed : wellFormed d ≡ true → wellFormed (segmentAfter d xs first second .desk) ≡ true
+  pub segment-well-formed : wellFormed d ≡ true → wellFormed (r .desk) ≡ true
   segment-well-formed = desks.segment-fits d xs first second
 
 pub gathering-well-formed : (d : Desk) → wellFormed (newGathering d) ≡ true
@@ -107,8 +106,8 @@ frame-well-formed = desks.frame-fits
 
 module _ {xs : List ℕ} {k : Kind} {m : ℕ} {l : FicList} where
   -- a chunk that the standard's tables lay out for the list l is read as its listing; the buffer past it stays
-  pub chunk-read : Carries xs k m l → (before : List ℕ) → longestListing ≤ length before → ReadSays xs before (Listed k m (length (listing l))) (listing l ++ drop (length (listing l)) before)
-  chunk-read = reading.carried-says
+  pub chunk-read : Carries xs k m l → (before : List ℕ) → longestListing ≤ length before → (readValues (readAnswer xs before) ≡ record { number = 0; kind = currentOf k; minor = m; length = length (listing l) }) × (readBuffer xs before ≡ listing l ++ drop (length (listing l)) before)
+  chunk-read = reading.carried-values
 
   -- it carries no other list, and nothing but such a chunk is listed
   pub one-list : {j : Kind} {n : ℕ} {i : FicList} → Carries xs k m l → Carries xs j n i → (k ≡ j) × (m ≡ n) × (l ≡ i)
@@ -116,6 +115,15 @@ module _ {xs : List ℕ} {k : Kind} {m : ℕ} {l : FicList} where
 
 pub only-chunks-listed : {xs before left : List ℕ} {k : Kind} {m n : ℕ} → Bytes xs → ReadSays xs before (Listed k m n) left → (l : FicList) × Carries xs k m l × (n ≡ length (listing l)) × (left ≡ listing l ++ drop n before)
 only-chunks-listed = reading.listed-carried
+
+-- and of a desk, whatever it holds and whatever came before: an answer that is a list is that of the chunk that its slot then holds; any other
+-- that is no refusal is the count of what its slot then lacks
+module _ (d : Desk) (xs first second : List ℕ) where
+  pub segment-listed : Bytes (d .bytes) → Bytes xs → (k : Kind) (n : ℕ) → let r = segmentAfter d xs first second in r .answer ≡ ListOf k n → (answerValues (r .answer) ≡ record { number = 0; missing = 0; kind = currentOf k; length = n }) × Lists d xs first second k n r
+  segment-listed b v k n is = (ap answerValues is, accepted.listed-lists d xs first second b v k n is)
+
+  pub segment-missing : (n : ℕ) → let r = segmentAfter d xs first second in r .answer ≡ Missing n → (answerValues (r .answer) ≡ record { number = 0; missing = n; kind = 0; length = 0 }) × Waits d xs first second n r
+  segment-missing n is = (ap answerValues is, accepted.missing-waits d xs first second n is)
 
 -- a gathering begins on a fresh desk, after new gathering and after new frame, whatever the desk before
 pub gatherings-begin : AtStart fresh × ((d : Desk) → AtStart (newGathering d)) × ((d : Desk) → AtStart (newFrame d))
@@ -159,16 +167,13 @@ module _ (ys : List ℕ) (two : 2 ≤ length ys) (room : length ys ≤ longestCh
     pub other-major-pieces : (numbers : List ℕ) → Each (λ i. i < segmentsFor (length ys)) numbers → delivered d (map (wholly first second) (map (pieceOf ys c) numbers)) first second ≡ record { answers = map (λ i. Unanswered OtherMajor) numbers; desk = d; first = first; second = second }
     other-major-pieces = majors.pieces-refused ys c bytes suits room other d formed first second one both
 
--- ---- two results can't both meet a call's statement; the statements that are not here are one equation each, of the result with a definition
+-- ---- two results can't both meet a call's statement. Those that are not here are an equation of the result with a definition (src/lib.rt)
 
 pub one-read : {xs before : List ℕ} {a b : Read} {p q : List ℕ} → ReadSays xs before a p → ReadSays xs before b q → (a ≡ b) × (p ≡ q)
-one-read s t = (s .answers ∙ sym (t .answers), s .leaves ∙ sym (t .leaves))
+one-read = reading.says-once
 
-pub one-written : {xs before : List ℕ} {k : Kind} {a b : Written} {p q : List ℕ} → WriteSays xs k before a p → WriteSays xs k before b q → (a ≡ b) × (p ≡ q)
-one-written s t = (s .answers ∙ sym (t .answers), s .leaves ∙ sym (t .leaves))
+pub one-written : (xs : List ℕ) (k : Kind) (before : List ℕ) {a b : Written} {p q : List ℕ} → WriteSays xs k before a p → WriteSays xs k before b q → (a ≡ b) × (p ≡ q)
+one-written = writing.says-once
 
-pub one-reply : {text before : List ℕ} {a b : Reply} {p q : List ℕ} → ReplySays text before a p → ReplySays text before b q → (a ≡ b) × (p ≡ q)
-one-reply s t = (s .answers ∙ sym (t .answers), s .leaves ∙ sym (t .leaves))
-
-pub one-equation : {A : Type 0} {a b told : A} → a ≡ told → b ≡ told → a ≡ b
-one-equation p q = p ∙ sym q
+pub one-taken : {r : After} {a b : Answer} {d e : Desk} {p q s t : List ℕ} → after a d p s ≡ r → after b e q t ≡ r → (a ≡ b) × (d ≡ e) × (p ≡ q) × (s ≡ t)
+one-taken x y = let z = x ∙ sym y in (ap (λ r. r .answer) z, ap (λ r. r .desk) z, ap (λ r. r .first) z, ap (λ r. r .second) z)

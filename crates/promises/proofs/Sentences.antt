@@ -1,21 +1,24 @@
 -- What document 01 says besides the demands, sentence by sentence, each proved by citing its lemma. docs/PROMISES.md says which sentence is which.
-use mathlib.Core.Path.{_≡_}
+use mathlib.Core.Path.{_≡_, sym, _∙_}
 use mathlib.Core.Bool.{true, false}
-use mathlib.Core.List.{List, [], _++_, flatMap}
+use mathlib.Core.List.{List, [], _∷_, _++_, map, flatMap}
 use mathlib.Core.Logic.{_⊎_}
 use Prim.Native.Nat.{ℕ, _+_, _-_, _*_, _/_, _%_, _^_, _≤_, _<_}
+use lib.Dec.{T}
 use lib.ListN.{length, drop}
 use lib.Count.{ones}
 use Rattle.octets.specs.Bits.{Bytes, Held}
+use Rattle.octets.specs.Each.{Each}
 use Rattle.meaning.specs.declared.Kind.{Kind}
 use Rattle.meaning.specs.declared.Kind.the-variants.{This, Next}
+use Rattle.meaning.specs.declared.Refusal.{Refusal}
 use Rattle.meaning.specs.declared.Refusal.the-variants.{Clash}
 use Rattle.meaning.specs.declared.Checked.the-variants.{Fine}
-use Rattle.meaning.specs.Sizes.{longestChunk, longestListing, tsBytes, enBytes, svBytes}
+use Rattle.meaning.specs.Sizes.{longestChunk, longestListing, tsBytes, enBytes, svBytes, markBytes}
 use Rattle.meaning.specs.Lists.{FicList, servicesOf, kindOf}
 use Rattle.meaning.specs.Layout.{Carries, wire}
 use Rattle.meaning.specs.Listing.{listing}
-use Rattle.meaning.specs.Numbers.{readNumber, readMinor, readLength}
+use Rattle.meaning.specs.Numbers.{among, numberOf, checkedNumber, readValues}
 use Rattle.meaning.specs.Reading.{checks, listIn, Accepts, readAnswer, readBuffer}
 use Rattle.meaning.specs.Listed.{listingFits, listSaid}
 use Rattle.meaning.specs.Plain.{plain, Fits, plainLength}
@@ -26,20 +29,26 @@ use Rattle.meaning.proofs.Answers.{dress-disregarded}
 use Rattle.meaning.proofs.Samples.{firstChunk, firstList, first-carried, longest-reached}
 use Rattle.meaning.proofs.Listed.{bytes-listing, listing-fitting, said-listing, listing-said, said-fitting, listing-once}
 use Rattle.meaning.proofs.Plain.{length-plain, carried-fitting}
-use Rattle.segments.specs.Segment.{headBytes, Head, headFields, segment, sortIn, segmentMajor, segmentKind, errorIn, numberIn, lastIn, payloadIn, payloadBytes}
+use Rattle.segments.specs.Segment.{segmentBytes, headBytes, Head, headFields, segment, sortIn, segmentMajor, segmentKind, errorIn, numberIn, lastIn, payloadIn, payloadBytes, segmentChecks}
 use Rattle.segments.specs.Cut.{segmentsFor}
 use Rattle.segments.proofs.Heads.{head-read}
+use Rattle.segments.proofs.Samples.{given, samples, samples-hold}
+use Rattle.segments.proofs.Checks.{check-numbers}
 use Rattle.segments.proofs.Cut.{segments-hold, segments-fewest}
-use Rattle.writer.specs.declared.Written.the-variants.{Segments}
-use Rattle.writer.specs.Writing.{shortestOutput, segmentsOf, writtenNumber, writtenCount, writeAnswer}
-use Rattle.typed.specs.Typed.{hexFits, hexSaid, logOf}
+use Rattle.writer.specs.declared.Written.the-variants.{Segments, Refused as Unwritten}
+use Rattle.writer.specs.Writing.{shortestOutput, segmentsOf, writtenValues, writeAnswer}
+use Rattle.typed.specs.declared.Reply.{Reply}
+use Rattle.typed.specs.Typed.{hexFits, hexSaid, logOf, longestLog, kindTyped, listingTyped, answerFor, replyValues, replyTo, Answerable, ReplySays}
+use Rattle.typed.proofs.Replies.{values-written, values-refused, values-unasked, log-short}
 use Rattle.slots.specs.declared.Answer.the-variants.{Missing, Refused}
 use Rattle.slots.specs.Slots.{holds, spoiledSlot, missingIn, clashing}
 use Rattle.slots.proofs.Bits.{complete-full, full-complete}
 use Rattle.desk.specs.declared.Desk.{Desk}
 use Rattle.desk.specs.Desks.{fresh, wellFormed, newGathering, newFrame, slotFor, bytesFor, otherKind, lentFor, after, callChecks, segmentAfter, shownLength, shown}
 use Rattle.desk.proofs.Keeps.{fresh-fits, gathering-bad, frame-bad, same-lengths}
-use Rattle.desk.proofs.Frames.{length-shown, frame-shows, frame-place, frame-next, frame-twice, gathering-shows, next-hidden, other-shown}
+use Rattle.desk.proofs.Frames.{length-shown, frame-shows, frame-place, frame-next, gathering-shows, next-hidden, other-shown}
+use Rattle.desk.specs.Calls.{DeskCall, InFrame, Lacks, ran}
+use Rattle.desk.proofs.Calls.{frame-only}
 use Rattle.desk.proofs.Apart.{own-only}
 use Rattle.desk.proofs.Refusals.{repeat-unchanged, spoiled-refused}
 use Rattle.desk.proofs.Reserved.{reserved-ignored}
@@ -47,8 +56,10 @@ use Rattle.lines.specs.Text.{hex, answerLines, numbered, textEnd, longestLines}
 use Rattle.lines.specs.Log.{state, printed, State, entryIn, wholeRecord, recordBytes, next, linesFor, lastLine, transcript, filled, Ready}
 use Rattle.lines.proofs.Log.{entry-more, transcript-any, printed-record, printed-last, filled-printed, filled-stops, filled-room, filled-ready}
 use Rattle.lines.proofs.Samples.{sampleLog, sampleText, start, sample-printed}
+use Rattle.stream.specs.Turns.{broughtBy, turned, enough}
+use Rattle.stream.proofs.Turns.{turned-printed}
 use Rattle.gatherings.specs.Deliveries.{AtStart, countdown}
-use Rattle.lukasembo.specs.Told.{readKind, readTold, writeTold}
+use Rattle.lukasembo.specs.Told.{readTold, writeTold}
 use Rattle.lukasembo.proofs.Laws.{read-parts, write-parts}
 use Rattle.gatherings.proofs.Printed.{written-printed, hex-typed}
 use Rattle.gatherings.proofs.Rounds.{carried-short, written-so-many}
@@ -88,6 +99,14 @@ longest-is-reached = longest-reached
 
 pub fields-read : (h : Head) (payload : List ℕ) → Held (headFields h) → Bytes payload → let xs = segment h payload in (sortIn xs ≡ h .sort) × (segmentMajor xs ≡ h .major) × (segmentKind xs ≡ kindOf (h .current)) × (errorIn xs ≡ h .error) × (numberIn xs ≡ h .number) × (lastIn xs ≡ h .last) × (payloadIn xs ≡ payload) × (length xs ≡ headBytes + length payload)
 fields-read = head-read
+
+-- document 01's samples: 72 00 is 3, 33 00 is 4, 36 00 is 5, 32 10 is 6; and which of two faults is told
+pub segment-samples : map given samples ≡ samples
+segment-samples = samples-hold
+
+-- the numbers of the checks on a segment by itself, 0 where they pass
+pub segment-check-numbers : (xs : List ℕ) → T (among (0 ∷ 2 ∷ 3 ∷ 4 ∷ 5 ∷ 6 ∷ []) (checkedNumber (segmentChecks xs)))
+segment-check-numbers = check-numbers
 
 pub reserved-bits-ignored : (h : Head) (reserved wake : ℕ) (payload : List ℕ) → Held (headFields h) → reserved < 2 → wake < 2 → Bytes payload → (d : Desk) (first second : List ℕ) → segmentAfter d (segment (record { sort = h .sort; reserved = reserved; wake = wake; major = h .major; current = h .current; error = h .error; number = h .number; last = h .last }) payload) first second ≡ segmentAfter d (segment h payload) first second
 reserved-bits-ignored = reserved-ignored
@@ -145,12 +164,12 @@ module _ (d : Desk) (first second : List ℕ) where
   pub next-is-empty : shown Next (newFrame d) first second ≡ []
   next-is-empty = frame-next d first second
 
-  -- a list applies to one frame: after another new frame, with no next list between, nothing is shown
-  pub one-frame-only : shown This (newFrame (newFrame d)) first second ≡ []
-  one-frame-only = frame-twice d first second
-
   pub gathering-keeps-listings : (k : Kind) → shown k (newGathering d) first second ≡ shown k d first second
   gathering-keeps-listings k = gathering-shows k d first second
+
+-- a list applies to one frame: after another new frame nothing is shown, whatever was called in between, if that completed no list of kind next
+pub one-frame-only : (d : Desk) (calls : List DeskCall) (first second : List ℕ) → Each InFrame calls → let r = ran (newFrame d) calls first second in Each (Lacks Next) (r .answers) → shown This (newFrame (r .desk)) (r .first) (r .second) ≡ []
+one-frame-only = frame-only
 
 -- and it is the same part of the caller's memory
 pub same-memory : {A : Type 0} (d : Desk) → wellFormed d ≡ true → (x y : A) → lentFor This (newFrame d .marks .swapped) x y ≡ lentFor Next (d .marks .swapped) x y
@@ -190,11 +209,30 @@ log-after-write = written-printed
 pub digits-typed : (xs : List ℕ) → Bytes xs → (hexFits (length xs) (hex xs) ≡ true) × (hexSaid (length xs) (hex xs) ≡ xs)
 digits-typed = hex-typed
 
+-- what is typed to `write`: two results can't both meet what is said of the answer; a log has room in 624 bytes
+pub one-reply : {text before : List ℕ} {a b : Reply} {p q : List ℕ} → ReplySays text before a p → ReplySays text before b q → (a ≡ b) × (p ≡ q)
+one-reply s t = (s .answers ∙ sym (t .answers), s .leaves ∙ sym (t .leaves))
+
+-- an answerable text (there is room, it is not too long, and it is clear) is answered as the writer answers its listing; any other has no log and
+-- no number
+module _ (text log : List ℕ) where
+  pub reply-written : Answerable text log → {n : ℕ} → answerFor (kindTyped text) (listingTyped text) ≡ Segments n → replyValues (replyTo text log) ≡ record { log = true; number = 0; length = (markBytes + segmentBytes) * n }
+  reply-written = values-written text log
+
+  pub reply-refused : Answerable text log → {f : Refusal} → answerFor (kindTyped text) (listingTyped text) ≡ Unwritten f → replyValues (replyTo text log) ≡ record { log = false; number = numberOf f; length = 0 }
+  reply-refused = values-refused text log
+
+  pub reply-without : (Answerable text log → ⊥) → replyValues (replyTo text log) ≡ record { log = false; number = 0; length = 0 }
+  reply-without = values-unasked text log
+
+pub log-has-room : (text log : List ℕ) → replyValues (replyTo text log) .length ≤ longestLog
+log-has-room = log-short
+
 -- for programs in C the answer is one number, and the header's functions get its parts back
-pub parts-of-a-reading : (xs buffer : List ℕ) → let a = readAnswer xs buffer in let r = readTold a in (r % 0x100 ≡ readNumber a) × (r / 0x100 % 2 ≡ readKind a) × (r / 0x200 % 8 ≡ readMinor a) × (r / 0x10000 ≡ readLength a)
+pub parts-of-a-reading : (xs buffer : List ℕ) → let a = readAnswer xs buffer in let r = readTold a in (r % 0x100 ≡ readValues a .number) × (r / 0x100 % 2 ≡ readValues a .kind) × (r / 0x200 % 8 ≡ readValues a .minor) × (r / 0x10000 ≡ readValues a .length)
 parts-of-a-reading = read-parts
 
-pub parts-of-a-writing : (xs : List ℕ) (k : Kind) (output : List ℕ) → let a = writeAnswer xs k output in let r = writeTold a in (r % 0x100 ≡ writtenNumber a) × (r / 0x10000 ≡ writtenCount a)
+pub parts-of-a-writing : (xs : List ℕ) (k : Kind) (output : List ℕ) → let a = writeAnswer xs k output in let r = writeTold a in (r % 0x100 ≡ writtenValues a .number) × (r / 0x10000 ≡ writtenValues a .count)
 parts-of-a-writing = write-parts
 
 -- ---- the log. `printed s log` is the whole transcript of a log from the state s: a desk and two buffers. The library's `fill` gives, of one block
@@ -234,3 +272,8 @@ within-the-output = filled-room
 -- the desk stays well formed and the buffers long enough
 pub stays-ready : (room : ℕ) (s : State) (block : List ℕ) → Ready s → Ready (filled room s block .state)
 stays-ready = filled-ready
+
+-- and of the program's loop: turn after turn, whatever its reads bring and however they cut the log, what is written is the whole transcript. A turn
+-- is what `stream::turn` says of itself (`TurnSays`), the reads' bytes are those up to the first read that brings nothing
+pub any-reads : (room : ℕ) (s : State) (xs : List ℕ) (reads : List (List ℕ)) (n : ℕ) → longestLines ≤ room → enough xs reads ≤ n → turned room n s xs reads ≡ printed s (xs ++ broughtBy reads)
+any-reads = turned-printed

@@ -2,3 +2,4 @@ pub mod Heads
 pub mod Checks
 pub mod Places
 pub mod Cut
+pub mod Samples

@@ -53,7 +53,7 @@ place-stored bytes vs i e h =
 
 -- ---- what a segment has that passed its checks, and what a well formed slot has
 
-pub segment-passes : (xs : List ℕ) → segmentChecks xs ≡ Fine → (length xs ≡ segmentBytes) × (numberIn xs ≤ lastIn xs)
+pub segment-passes : (xs : List ℕ) → segmentChecks xs ≡ Fine → (length xs ≡ segmentBytes) × (numberIn xs ≤ lastIn xs) × (segmentMajor xs ≡ 0)
 unfolding segmentChecks
 segment-passes xs p =
     let a = check-passed _ SegmentLength _ p in
@@ -61,7 +61,7 @@ segment-passes xs p =
     let d = check-passed (not (eqb (errorIn xs) 0)) ErrorBit _ (b .1) in
     let g = check-passed (not (eqb (segmentMajor xs) 0)) OtherMajor _ (d .1) in
     let n = check-passed _ NumberAboveLast Fine (g .1) in
-    (eqb-true _ _ (not-false _ (a .0)), ltb-false _ _ (n .0))
+    (eqb-true _ _ (not-false _ (a .0)), ltb-false _ _ (n .0), eqb-true _ _ (not-false _ (g .0)))
 
 pub last-small : (xs : List ℕ) → lastIn xs < mostSegments
 last-small xs = omega arith

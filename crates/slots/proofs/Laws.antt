@@ -1,11 +1,12 @@
 -- Laws of the definitions in the code's own terms. Assumes nothing.
-use mathlib.Core.Path.{_≡_, sym, ap, _∙_}
+use mathlib.Core.Path.{_≡_, refl, sym, ap, _∙_}
 use mathlib.Core.Bool.{Bool, true, false, not}
 use mathlib.Core.List.{List, _++_}
 use Prim.Native.Nat.{ℕ, _+_, _%_, _^_, _≤_, _<_}
 use native.Mathlib.Nat.{zero-add, zero-div}
 use native.Mathlib.Omega.{arith}
-use borrow.Author.Tests.{eq-eqb, ne-eqb}
+use borrow.Author.Tests.{eq-eqb, ne-eqb, eqb-true, eqb-false}
+use lib.Dec.{eqb}
 use lib.ListN.{length, getD, take, drop, length-drop}
 use lib.Seq.{take-all, sets, sets-eq}
 use lib.Pow.{pow-mono}
@@ -22,6 +23,7 @@ use Rattle.meaning.proofs.Lengths.{listing-fits}
 use Rattle.slots.specs.declared.Slot.{Slot}
 use Rattle.slots.specs.declared.Answer.the-variants.{Missing, Listed, Refused}
 use Rattle.octets.specs.Same.{same}
+use Rattle.octets.proofs.Laws.{either}
 use Rattle.segments.specs.Segment.{segmentBytes, headBytes, payloadBytes, mostSegments, placeOf, numberIn, lastIn, payloadIn, segmentChecks}
 use Rattle.slots.specs.Slots.{holds, missingIn, slotFits, clashing, holding}
 use Rattle.slots.specs.Gathering.{Side, Outcome, side, outcome, spoil, hold, chunkIn, kindChecks, judged, completed, gathered}
@@ -125,3 +127,32 @@ module _ (k : Kind) (xs : List ℕ) (s : Side) where
             done
             ∙ (λ i. completed k (side (more-is i) (stored i) (s .buffer)))
             ∙ simp (c, h, eq-eqb _ _ (sym left-is ∙ none))
+
+-- ---- the five ways of a segment that comes
+
+module _ (P : Outcome → Type 0) (k : Kind) (xs : List ℕ) (s : Side) where
+  abbrev chunk : List ℕ
+  chunk = chunkIn (hold xs s)
+
+  abbrev free : Type 0
+  free = (clashing (s .slot) (s .bytes) xs ≡ false) × (holds (s .slot .held) (numberIn xs) ≡ false)
+
+  completed-cases : ((f : Refusal) → kindChecks (checks chunk) k chunk ≡ Fault f → P (outcome (Refused f) (hold xs s))) → (kindChecks (checks chunk) k chunk ≡ Fine → P (judged Fine k (hold xs s))) → P (completed k (hold xs s))
+  unfolding completed
+  completed-cases refused listed = go (kindChecks (checks chunk) k chunk) refl
+    where
+      go : (v : Checked) → kindChecks (checks chunk) k chunk ≡ v → P (judged v k (hold xs s))
+      go (Fault f) e = refused f e
+      go Fine e = listed e
+
+  -- a clash; a repeat; one more; the last missing one, whose chunk is refused or listed
+  pub gathered-cases : (clashing (s .slot) (s .bytes) xs ≡ true → P (outcome (Refused Clash) (spoil s))) → (clashing (s .slot) (s .bytes) xs ≡ false → holds (s .slot .held) (numberIn xs) ≡ true → P (outcome (Missing (missingIn (s .slot))) s)) → (free → (missingIn (hold xs s .slot) ≡ 0 → ⊥) → P (outcome (Missing (missingIn (hold xs s .slot))) (hold xs s))) → (free → missingIn (hold xs s .slot) ≡ 0 → (f : Refusal) → kindChecks (checks chunk) k chunk ≡ Fault f → P (outcome (Refused f) (hold xs s))) → (free → missingIn (hold xs s .slot) ≡ 0 → kindChecks (checks chunk) k chunk ≡ Fine → P (judged Fine k (hold xs s))) → P (gathered k xs s)
+  unfolding gathered
+  gathered-cases clash again more refused listed =
+      either (clashing (s .slot) (s .bytes) xs) (λ c. simp c (clash c))
+      (λ c.
+      either (holds (s .slot .held) (numberIn xs)) (λ h. simp (c, h) (again c h))
+      (λ h.
+      either (eqb (missingIn (hold xs s .slot)) 0)
+      (λ z. let none = eqb-true _ _ z in simp (c, h, z) (completed-cases (refused (c, h) none) (listed (c, h) none)))
+      (λ z. simp (c, h, z) (more (c, h) (eqb-false _ _ z)))))

@@ -20,23 +20,19 @@ use Rattle.slots.specs.declared.Answer.the-variants.{Missing, Listed, Re
 use Rattle.segments.specs.Segment.{payloadBytes, numberIn, payloadIn}
 use Rattle.slots.specs.Slots.{noBytes, holds, spoiledSlot, missingIn, clashing, holding}
 
--- ---- an answer in document 01's numbers: its number, 0 where it is no refusal; how many are missing, and how long the listing is, 0 where it
--- does not say
+-- ---- an answer in document 01's numbers: its number, 0 where it is no refusal; how many are missing; the kind of the listing, 1 for this frame
+-- and 0 for the next, and its length. What an answer does not say is 0
 
-abbrev pub answerNumber : Answer → ℕ
-answerNumber (Missing n) = 0
-answerNumber (Listed k n) = 0
-answerNumber (Refused f) = numberOf f
+pub record AnswerValues : Type 0 where
+  pub number : ℕ
+  pub missing : ℕ
+  pub kind : ℕ
+  pub length : ℕ
 
-abbrev pub answerMissing : Answer → ℕ
-answerMissing (Missing n) = n
-answerMissing (Listed k n) = 0
-answerMissing (Refused f) = 0
-
-abbrev pub answerLength : Answer → ℕ
-answerLength (Missing n) = 0
-answerLength (Listed k n) = n
-answerLength (Refused f) = 0
+abbrev pub answerValues : Answer → AnswerValues
+answerValues (Missing n) = record { number = 0; missing = n; kind = 0; length = 0 }
+answerValues (Listed k n) = record { number = 0; missing = 0; kind = currentOf k; length = n }
+answerValues (Refused f) = record { number = numberOf f; missing = 0; kind = 0; length = 0 }
 
 -- and whether it is a refusal, as checks say it
 abbrev pub answerFault : Answer → Checked

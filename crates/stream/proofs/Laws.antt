@@ -1,14 +1,25 @@
--- Laws of moving bytes, and of the desk between two blocks. Assumes nothing.
-use mathlib.Core.Path.{_≡_, sym, ap, ap₂, subst, _∙_}
-use mathlib.Core.List.{List, [], _∷_, _++_}
+-- Laws of moving bytes, of what follows at a place, and of the desk between two blocks. Assumes nothing.
+use mathlib.Core.Path.{_≡_, refl, sym, ap, ap₂, subst, _∙_}
+use mathlib.Core.Bool.{Bool, true, false, not, true≢false}
+use mathlib.Core.List.{List, [], _∷_, _++_, append-nil}
+use mathlib.Core.Logic.{_⊎_, inl, inr, ⊎-elim}
 use Prim.Native.Nat.{ℕ, _+_, _-_, _≤_, _<_}
+use native.Mathlib.Nat.{sub-zero}
 use native.Mathlib.Numerals.{add-one}
 use native.Mathlib.Omega.{arith}
-use lib.ListN.{length, getD, take, drop, set, length-drop}
-use lib.Seq.{take-suc, take-suc-set, length-take-le, drop-set-lt, drop-drop, getD-drop, length-sets}
-use Rattle.lines.specs.Text.{Put}
-use Rattle.lines.specs.Log.{State, filled, Ready}
-use Rattle.lines.proofs.Log.{filled-ready, filled-read, filled-room}
+use borrow.Author.Tests.{eqb-true, eqb-false, eq-eqb, ne-eqb, not-true}
+use lib.Dec.{eqb}
+use lib.ListN.{length, getD, take, drop, set, length-drop, take-append-drop, drop-of-length-le}
+use lib.Seq.{take-suc, take-suc-set, take-take, take-add, take-at, drop-at, length-take-le, length-slice, drop-set-lt, drop-drop, getD-drop, length-sets, sets-eq}
+use Rattle.octets.proofs.Laws.{either}
+use Rattle.lines.specs.declared.Entry.{Entry}
+use Rattle.lines.specs.declared.Entry.the-variants.{End, Frame, Gathering, Segment, Unknown, Cut}
+use Rattle.lines.specs.Text.{longestLines, Put}
+use Rattle.lines.specs.Log.{State, filled, Ready, entryIn, wholeRecord, lastLine}
+use Rattle.lines.proofs.Laws.{last-small}
+use Rattle.lines.proofs.Log.{Tells, entry-tells, filled-ready, filled-read, filled-room}
+use Rattle.stream.specs.declared.Unread.{Unread}
+use Rattle.stream.specs.Moving.{longestRecord, unread, Stays, Refilled, Goes, Follows, TurnSays}
 
 -- ---- a byte moved down from the place from + i to the place i
 
@@ -34,21 +45,117 @@ module _ (l m : List ℕ) (from i : ℕ) (inside : from + i < length m) (long : 
       ∙ ap₂ (λ (t : List ℕ) (b : ℕ). t ++ (b ∷ [])) front (byte-kept ∙ sym (getD-drop from m i 0))
       ∙ sym (take-suc (drop from m) i 0 there))
 
--- what was moved down and kept is what was unread
-pub unread-kept : (n : ℕ) (old moved after : List ℕ) (count at : ℕ) → count ≡ n → take count after ≡ take count moved → take n moved ≡ take n (drop at old) → take n after ≡ take n (drop at old)
-unread-kept n old moved after count at e kept move = subst (λ (k : ℕ). take k after ≡ take k moved) e kept ∙ move
+-- ---- a text at the start of an output
 
--- ---- a text at the start of an output ends within it
+module _ (text out after : List ℕ) (end : ℕ) (p : Put text out 0 after end) (fits : length text ≤ length out) where
+  put-inside : end ≤ length after
+  put-inside = omega (arith, p .0, ap length (p .1), length-sets out 0 text)
 
-pub put-inside : (text out after : List ℕ) (end : ℕ) → Put text out 0 after end → length text ≤ length out → end ≤ length after
-put-inside text out after end p h = omega (arith, p .0, ap length (p .1), length-sets out 0 text)
+  put-front : take (length text) after ≡ text
+  put-front = ap (take (length text)) (p .1 ∙ sets-eq text out 0 (omega arith)) ∙ take-at text _ (length text) refl
 
 -- ---- the unread part of a block
 
-pub length-part : (block : List ℕ) (at have : ℕ) → at ≤ have → have ≤ length block → length (take (have - at) (drop at block)) ≡ have - at
-length-part block at have h k =
-    let room : have - at ≤ length (drop at block) = omega (arith, length-drop at block) in
-    length-take-le (have - at) (drop at block) room
+module _ (block : List ℕ) (at have : ℕ) (ahead : at ≤ have) (inside : have ≤ length block) where
+  unread-front : drop at (take have block) ≡ unread block at have
+  unread-front =
+      let e : have ≡ at + (have - at) = omega arith in
+      ap (λ (n : ℕ). drop at (take n block)) e
+      ∙ ap (drop at) (take-add at (have - at) block)
+      ∙ drop-at (take at block) (unread block at have) at (length-take-le at block (omega arith))
+
+  pub unread-length : length (unread block at have) ≡ have - at
+  unread-length =
+      let room : have - at ≤ length (drop at block) = omega (arith, length-drop at block) in
+      length-take-le (have - at) (drop at block) room
+
+-- the last line for it, as `lines::finish` puts it to the start of an output
+abbrev lastAt : List ℕ → ℕ → ℕ → List ℕ
+lastAt block at have = lastLine (entryIn (drop at (take have block)))
+
+module _ (block : List ℕ) (at have : ℕ) (out after : List ℕ) (end : ℕ) (fits : (at ≤ have) × (have ≤ length block) × (longestLines ≤ length out)) (p : Put (lastAt block at have) out 0 after end) where
+  last-fits : length (lastAt block at have) ≤ length out
+  last-fits = omega (arith, last-small (entryIn (drop at (take have block))))
+
+  pub last-inside : end ≤ length after
+  last-inside = put-inside (lastAt block at have) out after end p last-fits
+
+  pub last-front : take (length (lastLine (entryIn (unread block at have)))) after ≡ lastLine (entryIn (unread block at have))
+  last-front =
+      subst (λ (l : List ℕ). take (length (lastLine (entryIn l))) after ≡ lastLine (entryIn l))
+      (unread-front block at have (fits .0) (fits .1))
+      (put-front (lastAt block at have) out after end p last-fits)
+
+-- ---- a read behind what was moved down
+
+equal-difference : (n m : ℕ) → n ≤ m → eqb m n ≡ eqb (m - n) 0
+equal-difference n m h =
+    either (eqb m n)
+    (λ t. t ∙ sym (eq-eqb (m - n) 0 (omega (arith, eqb-true m n t))))
+    (λ f. f ∙ sym (ne-eqb (m - n) 0 (λ z. eqb-false m n f (omega arith))))
+
+module _ (old moved new : List ℕ) (at have left more : ℕ) (room : have - at < length old) (count : left ≡ have - at) (move : take (have - at) moved ≡ unread old at have) where
+  pub refilled : length new ≡ length moved → (left ≤ more) × (more ≤ length moved) → take left new ≡ take left moved → Refilled old at have new (record { at = 0; have = more; over = eqb more left })
+  refilled same ends kept =
+      let inside : more ≤ length new = omega arith in
+      let rest : List ℕ = drop left (take more new) in
+      record {
+        brought = rest;
+        room = omega arith;
+        start = refl;
+        inside = inside;
+        bytes =
+            ap (λ (n : ℕ). take n new) (sub-zero more)
+            ∙ sym (take-append-drop left (take more new))
+            ∙ ap (λ (t : List ℕ). t ++ rest) (take-take left more new (ends .0) ∙ kept ∙ ap (λ (n : ℕ). take n moved) count ∙ move);
+        over = equal-difference left more (ends .0) ∙ ap (λ (n : ℕ). eqb n 0) (sym (length-slice left more new inside));
+      }
+
+-- ---- what follows at a place, by what stands there
+
+pub stays : (old : List ℕ) (at have : ℕ) (over : Bool) (u : Unread) → (u .at ≡ at) × (u .have ≡ have) × (u .over ≡ over) → Stays old at have over old u
+stays old at have over u e = (refl, rw (← e .0, ← e .1, ← e .2) refl)
+
+module _ (old : List ℕ) (at have : ℕ) (pre : (at ≤ have) × (have ≤ length old) × (longestRecord ≤ length old)) where
+  module _ (e : Entry) (stands : e ≡ entryIn (drop at (take have old))) where
+    stands-unread : e ≡ entryIn (unread old at have)
+    stands-unread = stands ∙ ap entryIn (unread-front old at have (pre .0) (pre .1))
+
+    pub follows : (new : List ℕ) (u : Unread) → Goes e old at have new u → Follows old at have new u
+    follows new u = subst (λ (k : Entry). Goes k old at have new u) stands-unread
+
+    pub tells : Tells e (unread old at have)
+    tells = subst (λ (k : Entry). Tells k (unread old at have)) (sym stands-unread) (entry-tells (unread old at have))
+
+  -- what is shorter than the longest record leaves room for a byte
+  pub short-room : length (unread old at have) < longestRecord → (at ≤ have) × (have ≤ length old) × (have - at < length old)
+  short-room h = omega (arith, unread-length old at have (pre .0) (pre .1))
+
+-- a place stays, or what stands there is no whole record and a read follows
+module _ (old : List ℕ) (at have : ℕ) (new : List ℕ) (u : Unread) where
+  goes-cases : (e : Entry) → Goes e old at have new u → Stays old at have (not (wholeRecord e)) new u ⊎ ((wholeRecord e ≡ false) × Refilled old at have new u)
+  goes-cases Frame g = inl g
+  goes-cases Gathering g = inl g
+  goes-cases Segment g = inl g
+  goes-cases Unknown g = inl g
+  goes-cases End g = inr (refl, g)
+  goes-cases Cut g = inr (refl, g)
+
+  stays-place : (over : Bool) → Stays old at have over new u → at ≤ have → have ≤ length old → (u .at ≤ u .have) × (u .have ≤ length new)
+  stays-place over g ahead inside = rw (g .0, g .1) (ahead, inside)
+
+  module _ (f : Follows old at have new u) where
+    follows-place : at ≤ have → have ≤ length old → (u .at ≤ u .have) × (u .have ≤ length new)
+    follows-place ahead inside =
+        ⊎-elim (λ g. stays-place _ g ahead inside) (λ g. omega (arith, g .1 .start, g .1 .inside)) (goes-cases (entryIn (unread old at have)) f)
+
+    follows-over : u .over ≡ true → wholeRecord (entryIn (unread new (u .at) (u .have))) ≡ false
+    follows-over over =
+        ⊎-elim (λ g. rw (g .0, g .1) (not-true _ (rw (g .1) at over)))
+        (λ g.
+        let none : g .1 .brought ≡ [] = drop-of-length-le (g .1 .brought) {i = 0} (omega (arith, eqb-true (length (g .1 .brought)) 0 (sym (g .1 .over) ∙ over))) in
+        rw (g .1 .start, g .1 .bytes, none, append-nil) (g .0))
+        (goes-cases (entryIn (unread old at have)) f)
 
 -- ---- a block was filled from a desk that is in order
 
@@ -58,11 +165,44 @@ Fills s xs out t read after wrote =
     (t ≡ filled (length out) s xs .state) × ((read ≡ filled (length out) s xs .read) × Put (filled (length out) s xs .text) out 0 after wrote)
 
 module _ (s t : State) (xs out after : List ℕ) (read wrote : ℕ) (says : Fills s xs out t read after wrote) where
-  pub filled-keeps : Ready s → Ready t
-  filled-keeps h = subst Ready (sym (says .0)) (filled-ready (length out) s xs h)
-
   pub filled-before : (at have : ℕ) → length xs ≡ have - at → at ≤ have → at + read ≤ have
   filled-before at have e h = omega (arith, says .1 .0, filled-read (length out) s xs)
 
   pub filled-inside : wrote ≤ length after
   filled-inside = put-inside (filled (length out) s xs .text) out after wrote (says .1 .1) (filled-room (length out) s xs)
+
+  module _ (old : List ℕ) (at have : ℕ) (new : List ℕ) (u : Unread) where
+    pub turn-lost : Stays old at have false new u → TurnSays (filled (length out) s xs) old at have out t new after wrote true u
+    turn-lost g = record { state = says .0; text = says .1 .1; place = λ e. absurd (true≢false e); lost = λ e. g }
+
+    pub turn-passed : Follows old (at + read) have new u → TurnSays (filled (length out) s xs) old at have out t new after wrote false u
+    turn-passed g =
+        record {
+          state = says .0;
+          text = says .1 .1;
+          place = λ e. subst (λ (n : ℕ). Follows old (at + n) have new u) (says .1 .0) g;
+          lost = λ e. absurd (true≢false (sym e));
+        }
+
+-- ---- after a turn the desk is in order, the unread part is inside the block, and where it is over no whole record stands
+
+pub record Keeps (t : State) (new : List ℕ) (failed : Bool) (u : Unread) : Type 0 where
+  pub ready : Ready t
+  pub ahead : u .at ≤ u .have
+  pub inside : u .have ≤ length new
+  pub over : failed ≡ false → u .over ≡ true → wholeRecord (entryIn (unread new (u .at) (u .have))) ≡ false
+
+pub turn-keeps : (room : ℕ) (s : State) (old : List ℕ) (at have : ℕ) (before : List ℕ) (t : State) (new after : List ℕ) (wrote : ℕ) (failed : Bool) (u : Unread) → TurnSays (filled room s (unread old at have)) old at have before t new after wrote failed u → Ready s → at ≤ have → have ≤ length old → Keeps t new failed u
+turn-keeps room s old at have before t new after wrote failed u says in-order ahead inside =
+    let xs : List ℕ = unread old at have in
+    let next : ℕ = at + filled room s xs .read in
+    let most : next ≤ have = omega (arith, filled-read room s xs, unread-length old at have ahead inside) in
+    let place : (u .at ≤ u .have) × (u .have ≤ length new) =
+    either failed (λ e. stays-place old at have new u false (says .lost e) ahead inside)
+    (λ e. follows-place old next have new u (says .place e) most inside) in
+    record {
+      ready = subst Ready (sym (says .state)) (filled-ready room s xs in-order);
+      ahead = place .0;
+      inside = place .1;
+      over = λ e. follows-over old next have new u (says .place e);
+    }

@@ -1,21 +1,22 @@
 -- What is answered to a listing and to a text, case by case. Assumes nothing.
 use mathlib.Core.Path.{_≡_, refl, sym, ap, ap₂, _∙_, subst}
-use mathlib.Core.Bool.{true, false, _&&_, _||_}
+use mathlib.Core.Bool.{Bool, true, false, _&&_, _||_, and-eq-true-iff}
 use mathlib.Core.List.{List, _++_}
-use Prim.Native.Nat.{ℕ, _+_, _-_, _*_, _/_, _%_, _≤_, _<_}
+use Prim.Native.Nat.{ℕ, zero, suc, _+_, _-_, _*_, _/_, _%_, _≤_, _<_}
 use native.Mathlib.Nat.{zero-add}
 use native.Mathlib.Omega.{arith}
-use borrow.Author.Tests.{lt-ltb, le-ltb, eq-eqb, ne-eqb}
-use lib.Dec.{eqb}
-use lib.ListN.{length, drop, replicate}
+use borrow.Author.Tests.{ltb-true, ltb-false, lt-ltb, le-ltb, eq-eqb, ne-eqb}
+use lib.Dec.{eqb, ltb}
+use lib.ListN.{length, getD, drop, replicate}
 use lib.Seq.{sets, sets-eq}
 use Rattle.octets.specs.Bits.{Bytes}
 use Rattle.octets.specs.Each.{Each}
+use Rattle.octets.proofs.Laws.{either}
 use Rattle.meaning.specs.declared.Kind.{Kind}
 use Rattle.meaning.specs.declared.Kind.the-variants.{This, Next}
 use Rattle.meaning.specs.declared.Refusal.{Refusal}
-use Rattle.meaning.specs.declared.Refusal.the-variants.{ShortBuffer}
 use Rattle.meaning.specs.Sizes.{longestChunk, markBytes}
+use Rattle.meaning.specs.Numbers.{numberOf}
 use Rattle.meaning.specs.Listed.{listingFits, listSaid}
 use Rattle.meaning.specs.Plain.{Fits, plainLength}
 use Rattle.meaning.proofs.Listed.{said-fitting}
@@ -27,8 +28,8 @@ use Rattle.writer.specs.Writing.{shortestOutput, segmentsOf, WriteSays}
 use Rattle.writer.proofs.Answers.{segments-says}
 use Rattle.writer.proofs.Outputs.{length-segmentsOf, segmentsOf-whole}
 use Rattle.typed.specs.declared.Reply.{Reply}
-use Rattle.typed.specs.declared.Reply.the-variants.{Log, Not, Unclear, TooLong}
-use Rattle.typed.specs.Typed.{longestText, kindBytes, wordThis, wordNext, begins, lineLength, hexFits, hexSaid, listingTyped, clear, kindTyped, logOf, longestLog, answerFor, replyFor, replyTo, leftBy, ReplySays}
+use Rattle.typed.specs.declared.Reply.the-variants.{Log, Not, Unclear, TooLong, NoRoom}
+use Rattle.typed.specs.Typed.{longestText, kindBytes, wordThis, wordNext, begins, lineLength, digitOf, hexFits, hexSaid, digitsTyped, bytesTyped, listingTyped, clear, kindTyped, logOf, longestLog, ReplyValues, replyValues, answerFor, replyFor, replyTo, Answerable, leftBy, ReplySays}
 use Rattle.typed.specs.Put.{logPut}
 use Rattle.typed.proofs.Texts.{line-room}
 use Rattle.typed.proofs.Logs.{logPut-joined, length-logOf}
@@ -94,7 +95,7 @@ module _ (text log : List ℕ) where
   says : {answer : Reply} → answer ≡ replyTo text log → ReplySays text log answer (leftBy answer (kindTyped text) (listingTyped text) log)
   says e = record { answers = e; leaves = ap (λ (r : Reply). leftBy r (kindTyped text) (listingTyped text) log) e }
 
-  pub says-short : length log < longestLog → ReplySays text log (Not ShortBuffer) log
+  pub says-short : length log < longestLog → ReplySays text log NoRoom log
   unfolding replyTo
   says-short h = says (sym (simp (lt-ltb _ _ h)))
 
@@ -130,3 +131,68 @@ module _ (text log : List ℕ) where
               let xs : listingTyped text ≡ hexSaid ((n - kindBytes) / 2) (drop kindBytes text) = ap (λ (m : ℕ). hexSaid ((m - kindBytes) / 2) (drop kindBytes text)) (sym is) in
               let right : r ≡ replyTo text log = reply ∙ sym (simp (le-ltb _ _ room, le-ltb _ _ fits, clears) (ap₂ (λ (j : Kind) (ys : List ℕ). replyFor (answerFor j ys)) (w .kind) xs)) in
               record { answers = right; leaves = leaves ∙ sym (ap₂ (λ (j : Kind) (ys : List ℕ). leftBy r j ys log) (w .kind) xs) ∙ says right .leaves }
+
+-- ---- the values of an answer
+
+abbrev nothing : ReplyValues
+nothing = record { log = false; number = 0; length = 0 }
+
+module _ (text log : List ℕ) where
+  module _ (ok : Answerable text log) where
+    answerable-reply : replyTo text log ≡ replyFor (answerFor (kindTyped text) (listingTyped text))
+    unfolding replyTo
+    answerable-reply = simp (le-ltb _ _ (ok .0), le-ltb _ _ (ok .1), ok .2)
+
+    pub values-written : {n : ℕ} → answerFor (kindTyped text) (listingTyped text) ≡ Segments n → replyValues (replyTo text log) ≡ record { log = true; number = 0; length = (markBytes + segmentBytes) * n }
+    values-written e = ap replyValues (answerable-reply ∙ ap replyFor e)
+
+    pub values-refused : {f : Refusal} → answerFor (kindTyped text) (listingTyped text) ≡ Refused f → replyValues (replyTo text log) ≡ record { log = false; number = numberOf f; length = 0 }
+    values-refused e = ap replyValues (answerable-reply ∙ ap replyFor e)
+
+  pub values-unasked : (Answerable text log → ⊥) → replyValues (replyTo text log) ≡ nothing
+  unfolding replyTo
+  values-unasked none =
+      either (ltb (length log) longestLog) (λ s. simp s)
+      (λ s.
+      either (ltb longestText (length text)) (λ l. simp (s, l))
+      (λ l. either (clear text) (λ c. absurd (none (ltb-false _ _ s, ltb-false _ _ l, c))) (λ c. simp (s, l, c))))
+
+-- ---- the length of a log
+
+bytes-said : (n : ℕ) (text : List ℕ) → hexFits n text ≡ true → Bytes (hexSaid n text)
+unfolding hexFits hexSaid
+bytes-said zero text e = tt
+bytes-said (suc n) text e =
+    let a : ℕ = digitOf (getD text 0 0) in
+    let b : ℕ = digitOf (getD text 1 0) in
+    let p = and-eq-true-iff (ltb a 16 && ltb b 16) (hexFits n (drop 2 text)) .0 e in
+    let q = and-eq-true-iff (ltb a 16) (ltb b 16) .0 (p .0) in
+    (omega (arith, ltb-true a 16 (q .0), ltb-true b 16 (q .1)), bytes-said n (drop 2 text) (p .1))
+
+-- the writer's answer to bytes
+answer-short : (k : Kind) (xs : List ℕ) → Bytes xs → replyValues (replyFor (answerFor k xs)) .length ≤ longestLog
+answer-short k xs b = go (answerFor k xs) refl
+  where
+    go : (w : Written) → answerFor k xs ≡ w → replyValues (replyFor w) .length ≤ longestLog
+    go (Segments n) e = omega (arith, segments-few xs k _ (answerFor k xs) (record { answers = refl; leaves = refl }) n e b)
+    go (Refused f) e = omega arith
+
+pub log-short : (text log : List ℕ) → replyValues (replyTo text log) .length ≤ longestLog
+unfolding replyTo
+log-short text log =
+    either (ltb (length log) longestLog) (λ s. simp s (omega arith))
+    (λ s.
+    either (ltb longestText (length text)) (λ l. simp (s, l) (omega arith))
+    (λ l.
+    either (clear text)
+    (λ c. simp (s, l, c) (answer-short (kindTyped text) (listingTyped text) (bytes-said (bytesTyped text) (drop kindBytes text) (clear-digits c))))
+    (λ c. simp (s, l, c) (omega arith))))
+  where
+    clear-digits : clear text ≡ true → hexFits (bytesTyped text) (drop kindBytes text) ≡ true
+    clear-digits c =
+        let even : Bool = eqb (digitsTyped text % 2) 0 in
+        let digits : Bool = hexFits (bytesTyped text) (drop kindBytes text) in
+        and-eq-true-iff even digits .0 (and-eq-true-iff (begins wordThis text || begins wordNext text) (even && digits) .0 c .1) .1
+
+pub says-inside : {text before after : List ℕ} {r : Reply} {n : ℕ} → ReplySays text before r after → r ≡ Log n → n ≤ longestLog
+says-inside {text} {before} s e = subst (λ (r : Reply). replyValues r .length ≤ longestLog) (sym (s .answers) ∙ e) (log-short text before)

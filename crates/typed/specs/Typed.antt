@@ -1,23 +1,23 @@
 -- What is typed to the program `write`: the word `this` or `next`, a space, a listing in hex, and perhaps a newline; and the answer, a log of the
 -- writer's segments.
-use Prim.Native.Nat.{ℕ, zero, suc, _+_, _-_, _*_, _/_, _%_}
+use Prim.Native.Nat.{ℕ, zero, suc, _+_, _-_, _*_, _/_, _%_, _≤_}
 use mathlib.Core.Path.{_≡_}
-use mathlib.Core.Bool.{Bool, true, cond, _&&_, _||_, not}
+use mathlib.Core.Bool.{Bool, true, false, cond, _&&_, _||_, not}
 use mathlib.Core.List.{List, [], _∷_, _++_, flatMap}
 use lib.Dec.{eqb, leb, ltb}
 use lib.ListN.{length, getD, take, drop, replicate}
 use Rattle.octets.specs.Same.{same}
 use Rattle.meaning.specs.declared.Kind.{Kind}
 use Rattle.meaning.specs.declared.Kind.the-variants.{This, Next}
-use Rattle.meaning.specs.declared.Refusal.the-variants.{ShortBuffer}
 use Rattle.meaning.specs.Sizes.{markBytes}
+use Rattle.meaning.specs.Numbers.{numberOf}
 use Rattle.meaning.specs.Listed.{listSaid}
 use Rattle.segments.specs.Segment.{segmentBytes, mostSegments}
 use Rattle.writer.specs.declared.Written.{Written}
 use Rattle.writer.specs.declared.Written.the-variants.{Segments, Refused}
 use Rattle.writer.specs.Writing.{shortestOutput, segmentsOf, writeAnswer}
 use Rattle.typed.specs.declared.Reply.{Reply}
-use Rattle.typed.specs.declared.Reply.the-variants.{Log, Not, Unclear, TooLong}
+use Rattle.typed.specs.declared.Reply.the-variants.{Log, Not, Unclear, TooLong, NoRoom}
 
 -- ---- the text
 
@@ -89,6 +89,20 @@ logOf segments = flatMap (λ s. markSG ++ s) segments
 abbrev pub longestLog : ℕ
 longestLog = mostSegments * (markBytes + segmentBytes)
 
+-- ---- an answer: whether there is a log; the writer's number, 0 where it has not refused; how long the log is, 0 where there is none
+
+pub record ReplyValues : Type 0 where
+  pub log : Bool
+  pub number : ℕ
+  pub length : ℕ
+
+abbrev pub replyValues : Reply → ReplyValues
+replyValues (Log n) = record { log = true; number = 0; length = n }
+replyValues (Not f) = record { log = false; number = numberOf f; length = 0 }
+replyValues Unclear = record { log = false; number = 0; length = 0 }
+replyValues TooLong = record { log = false; number = 0; length = 0 }
+replyValues NoRoom = record { log = false; number = 0; length = 0 }
+
 -- ---- the answer to a text, with a lent buffer for the log
 
 -- what the writer answers, its output long enough
@@ -102,10 +116,14 @@ replyFor (Refused f) = Not f
 
 unfoldable pub replyTo : List ℕ → List ℕ → Reply
 replyTo text log =
-    cond (ltb (length log) longestLog) (Not ShortBuffer)
+    cond (ltb (length log) longestLog) NoRoom
     (cond (ltb longestText (length text)) TooLong
     (cond (not (clear text)) Unclear
     (replyFor (answerFor (kindTyped text) (listingTyped text)))))
+
+-- there is room for a log, and the text is not too long and clear
+abbrev pub Answerable : List ℕ → List ℕ → Type 0
+Answerable text log = (longestLog ≤ length log) × (length text ≤ longestText) × (clear text ≡ true)
 
 -- the log at the start, bytes past it as they were; any other answer leaves all as it was
 abbrev pub leftBy : Reply → Kind → List ℕ → List ℕ → List ℕ
@@ -113,6 +131,7 @@ leftBy (Log n) k xs log = logOf (segmentsOf k (listSaid xs)) ++ drop n log
 leftBy (Not f) k xs log = log
 leftBy Unclear k xs log = log
 leftBy TooLong k xs log = log
+leftBy NoRoom k xs log = log
 
 -- what the reply promises: of the text and the buffer before, the answer, and the buffer after
 pub record ReplySays (text before : List ℕ) (answer : Reply) (after : List ℕ) : Type 0 where

@@ -20,11 +20,13 @@ ghost use Rattle.typed.specs.Put.{logPut};
 pub enum Reply {
     // a log of so many bytes now stands at the start of the lent buffer
     Log(usize),
-    // the writer refuses the listing, or the lent buffer is too short
+    // the writer refuses the listing
     Not(Refusal),
     // it is no kind, a space and bytes in hex
     Unclear,
     TooLong,
+    // the lent buffer is too short for the log of the longest chunk
+    NoRoom,
 }
 
 const TEXT: usize = 65535;
@@ -185,7 +187,7 @@ pub fn respond(text: &[u8], log: &mut [u8]) -> Reply
     ensures { λ r. ⌜ ReplySays (now (text .entry)) (now (log .entry)) r (now (log .exit)) ⌝ }
 {
     if log.len() < LOG {
-        return Reply::Not(Refusal::ShortBuffer);
+        return Reply::NoRoom;
     }
     if TEXT < text.len() {
         return Reply::TooLong;

@@ -22,7 +22,7 @@ use Rattle.segments.specs.Segment.{segmentBytes}
 use Rattle.segments.specs.Cut.{joined}
 use Rattle.writer.specs.declared.Written.{Written}
 use Rattle.writer.specs.declared.Written.the-variants.{Segments, Refused}
-use Rattle.writer.specs.Writing.{shortestOutput, writtenFault, writtenNumber, writtenCount, segmentsOf, writeChecks, writtenFor, writeAnswer, leftBy, writeOutput, WriteSays}
+use Rattle.writer.specs.Writing.{shortestOutput, writtenFault, writtenValues, segmentsOf, writeChecks, writtenFor, writeAnswer, leftBy, writeOutput, WriteSays}
 
 -- ---- the checks, one after the other
 
@@ -90,17 +90,17 @@ module _ (xs : List ℕ) (k : Kind) (before : List ℕ) where
   says-once s t = (s .answers ∙ sym (t .answers), s .leaves ∙ sym (t .leaves))
 
   -- a refusal is one of three numbers, with no segment, and writes nothing
-  pub refused-says : {f : Refusal} {after : List ℕ} → WriteSays xs k before (Refused f) after → T (among (1 ∷ 13 ∷ 14 ∷ []) (writtenNumber (Refused f))) × (writtenCount (Refused f) ≡ 0) × (after ≡ before)
+  pub refusal-values : {f : Refusal} → writeChecks xs before ≡ Fault f → T (among (1 ∷ 13 ∷ 14 ∷ []) (numberOf f)) × (writtenValues (writeAnswer xs k before) ≡ record { number = numberOf f; count = 0 }) × (writeOutput xs k before ≡ before)
   unfolding writeAnswer writeOutput
-  refused-says {f} s = (
-    go (writeChecks xs before) (checks-among xs before) (sym (s .answers)),
-    refl,
-    s .leaves ∙ ap (λ (r : Written). leftBy r xs k before) (sym (s .answers)),
+  refusal-values {f} e = (
+    checks-among xs before f e,
+    ap (λ (v : Checked). writtenValues (writtenFor v xs k)) e,
+    ap (λ (v : Checked). leftBy (writtenFor v xs k) xs k before) e,
   )
-    where
-      go : (v : Checked) → Among numbers v → writtenFor v xs k ≡ Refused f → T (among numbers (numberOf f))
-      go Fine a p = let z : _≡_ {A = ℕ} 0 1 = cc in absurd (omega arith)
-      go (Fault g) a p = let same : g ≡ f = cc in a f (ap Fault same)
+
+  -- and a listing that passes has number 0 and its segments
+  pub written-values : writeChecks xs before ≡ Fine → let s = segmentsOf k (listSaid xs) in (writtenValues (writeAnswer xs k before) ≡ record { number = 0; count = length s }) × (writeOutput xs k before ≡ joined s ++ drop (segmentBytes * length s) before)
+  written-values e = let s = says-written e in (ap writtenValues (sym (s .answers)), sym (s .leaves))
 
   -- segments are of a listing that passed the checks, and stand at the start of the output
   pub segments-says : {n : ℕ} {after : List ℕ} → WriteSays xs k before (Segments n) after → let s = segmentsOf k (listSaid xs) in (listingFits xs ≡ true) × (plainLength (listSaid xs) ≤ longestChunk) × (n ≡ length s) × (after ≡ joined s ++ drop (segmentBytes * n) before)

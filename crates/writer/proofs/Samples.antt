@@ -10,7 +10,7 @@ use Rattle.meaning.specs.Listed.{svFits, servicesFit, servicesSaid, enFits, ens
 use Rattle.meaning.specs.Lists.{servicesOf}
 use Rattle.segments.specs.Segment.{headFields, segment}
 use Rattle.segments.specs.Cut.{pieceOf, upFrom}
-use Rattle.writer.specs.Writing.{writtenNumber, writtenCount, segmentsOf, writeAnswer, writeOutput}
+use Rattle.writer.specs.Writing.{writtenValues, segmentsOf, writeAnswer, writeOutput}
 
 -- ---- listings
 
@@ -36,7 +36,7 @@ output : List ℕ
 output = replicate 592 0
 
 given : List ℕ → Sample
-given xs = let answer = writeAnswer xs This output in record { listing = xs; number = writtenNumber answer; count = writtenCount answer }
+given xs = let answer = writeAnswer xs This output in record { listing = xs; number = writtenValues answer .number; count = writtenValues answer .count }
 
 sample : List ℕ → ℕ → ℕ → Sample
 sample xs n m = record { listing = xs; number = n; count = m }

@@ -27,13 +27,13 @@ shortestOutput = 592
 
 -- ---- an answer in document 01's numbers: its number, 0 where it is no refusal; how many segments, 0 where it is one
 
-abbrev pub writtenNumber : Written → ℕ
-writtenNumber (Segments n) = 0
-writtenNumber (Refused f) = numberOf f
+pub record WrittenValues : Type 0 where
+  pub number : ℕ
+  pub count : ℕ
 
-abbrev pub writtenCount : Written → ℕ
-writtenCount (Segments n) = n
-writtenCount (Refused f) = 0
+abbrev pub writtenValues : Written → WrittenValues
+writtenValues (Segments n) = record { number = 0; count = n }
+writtenValues (Refused f) = record { number = numberOf f; count = 0 }
 
 -- and whether it is a refusal, as checks say it
 abbrev pub writtenFault : Written → Checked

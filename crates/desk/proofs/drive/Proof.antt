@@ -1,24 +1,23 @@
--- `desk::drive` meets its contract: a short buffer, a refusal of the segment itself, or the slot of its kind. Assumes nothing.
-use mathlib.Core.Path.{sym, _∙_}
+-- `desk::drive` meets its contract: a refusal of the segment itself, or the slot of its kind. Assumes nothing.
+use mathlib.Core.Path.{_≡_, sym, _∙_}
 use native.Mathlib.Omega.{arith}
 use denote.Ref.{now}
+use Rattle.meaning.specs.declared.Checked.the-variants.{Fine}
+use Rattle.segments.specs.Segment.{segmentChecks}
 use Rattle.slots.proofs.Keeps.{segment-passes}
-use Rattle.desk.proofs.Laws.{first-short, second-short, taken-refused, taken-steered}
+use Rattle.desk.specs.Desks.{desk}
+use Rattle.desk.proofs.Roles.{Ready}
+use Rattle.desk.proofs.Laws.{taken-refused, taken-steered}
 use borrow.Author.Needs.{needs}
 use Rattle.desk.proofs.drive.Statement.{statement}
 use Rattle.desk.proofs.drive.Tie as tie
 
-short-requires : tie.Need-short-requires
-short-requires c κs = search needs
+-- what is asked, and that the segment's own checks passed
+ready : (c : tie.After-check-segment) → let a = c .before .before .before .before .before .args in Ready (desk (a .marks) (now (a .bytes))) (now (a .first)) (now (a .second))
+ready c = let p = c .before .before .before .before .before .pre in record { formed = p .0; left = p .1; right = p .2 }
 
-returns : tie.Need-returns
-returns c = first-short _ _ _ _ (c .before .before .before .before .before .before .pre) (c .before .if1 .taken) (c .short .ensures)
-
-short-requires-2 : tie.Need-short-requires-2
-short-requires-2 c κs = search needs
-
-returns-2 : tie.Need-returns-2
-returns-2 c = second-short _ _ _ _ (c .before .before .before .before .before .before .before .pre) (c .before .before .if1 .left) (c .before .if2 .taken) (c .short2 .ensures)
+fine : (c : tie.After-enum-told) → segmentChecks (now (c .before .before .before .before .before .before .before .args .seg)) ≡ Fine
+fine c = sym (c .before .before .check-segment .ensures) ∙ c .enum-told .given .1
 
 check-segment-requires : tie.Need-check-segment-requires
 check-segment-requires c κs = search needs
@@ -30,19 +29,21 @@ enum-told : tie.Need-enum-told
 enum-told c = search needs
 
 shared-slice-read-kind-of : tie.Need-shared-slice-read-kind-of
-shared-slice-read-kind-of c = omega (arith, segment-passes (now (c .before .before .before .before .before .before .before .before .before .before .args .seg)) (sym (c .before .before .before .check-segment .ensures) ∙ c .before .enum-told .given .1))
+shared-slice-read-kind-of c = omega (arith, segment-passes (now (c .before .before .before .before .before .before .before .before .args .seg)) (fine (c .before)))
 
 kind-of-requires : tie.Need-kind-of-requires
 kind-of-requires c κs = search needs
 
 steer-requires : tie.Need-steer-requires
-steer-requires c κs = (c .before .before .before .before .before .before .before .before .before .before .before .before .before .before .pre, sym (c .before .before .before .before .before .before .before .check-segment .ensures) ∙ c .before .before .before .before .before .enum-told .given .1, c .before .before .before .before .before .before .before .before .before .if1 .left, c .before .before .before .before .before .before .before .before .if2 .left)
+steer-requires c κs =
+    let e = c .before .before .before .before .before in
+    let y = ready (e .before .before) in
+    (y .formed, fine e, y .left, y .right)
 
-returns-3 : tie.Need-returns-3
-returns-3 c =
-    taken-refused _ _ _ _
-    (record { formed = c .before .before .before .before .before .before .before .before .before .before .pre; left = c .before .before .before .before .before .if1 .left; right = c .before .before .before .before .if2 .left })
-    (sym (c .before .before .before .check-segment .ensures) ∙ c .before .refusal .given .1)
+returns : tie.Need-returns
+returns c =
+    let k = c .before .before .before in
+    taken-refused _ _ _ _ (ready k) (sym (k .check-segment .ensures) ∙ c .before .refusal .given .1)
 
 same-length : tie.Need-same-length
 same-length c = search needs
@@ -53,30 +54,24 @@ same-length-2 c = search needs
 same-length-3 : tie.Need-same-length-3
 same-length-3 c = search needs
 
-returns-4 : tie.Need-returns-4
-returns-4 c =
-    taken-steered _ _ _ _
-    (record { formed = c .before .before .before .before .before .before .before .before .before .before .before .before .before .before .before .before .before .before .before .before .before .pre; left = c .before .before .before .before .before .before .before .before .before .before .before .before .before .before .before .before .if1 .left; right = c .before .before .before .before .before .before .before .before .before .before .before .before .before .before .before .if2 .left })
-    (sym (c .before .before .before .before .before .before .before .before .before .before .before .before .before .before .check-segment .ensures) ∙ c .before .before .before .before .before .before .before .before .before .before .before .before .enum-told .given .1)
-    (c .before .before .before .before .before .before .before .before .before .before .kind-of .ensures)
-    (c .before .before .before .before .before .before .steer .ensures)
+returns-2 : tie.Need-returns-2
+returns-2 c =
+    let s = c .before .before .before .before .before .before in
+    let e = s .before .before .before .before .before .before in
+    taken-steered _ _ _ _ (ready (e .before .before)) (fine e) (s .before .before .before .before .kind-of .ensures) (s .steer .ensures)
 
 pub drive-spec : {M : Type 1} → statement M
 drive-spec =
     tie.close
     (tie.spec
-    short-requires
-    returns
-    short-requires-2
-    returns-2
     check-segment-requires
     enum-known-refusal
     enum-told
     shared-slice-read-kind-of
     kind-of-requires
     steer-requires
-    returns-3
+    returns
     same-length
     same-length-2
     same-length-3
-    returns-4)
+    returns-2)

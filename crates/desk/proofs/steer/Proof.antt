@@ -19,7 +19,7 @@ first-serves-requires : tie.Need-first-serves-requires
 first-serves-requires c κs = search needs
 
 add-gather : tie.Need-add-gather
-add-gather c = omega (arith, start-low (c .before .before .before .before .before .before .before .args .kind) (c .before .start-of .result) (c .before .start-of .ensures))
+add-gather c = omega (arith, start-low (c .before .start-of .ensures))
 
 sub-gather : tie.Need-sub-gather
 sub-gather c = search needs
@@ -28,7 +28,7 @@ part-gather-start : tie.Need-part-gather-start
 part-gather-start c = search needs
 
 part-gather-end : tie.Need-part-gather-end
-part-gather-end c = omega (arith, start-low (c .before .before .before .before .before .before .before .args .kind) (c .before .start-of .result) (c .before .start-of .ensures), length-desk (desk (c .before .before .before .before .before .before .before .args .marks) (now (c .before .before .before .before .before .before .before .args .bytes))) (c .before .before .before .before .before .before .before .pre .0))
+part-gather-end c = omega (arith, start-low (c .before .start-of .ensures), length-desk (desk (c .before .before .before .before .before .before .before .args .marks) (now (c .before .before .before .before .before .before .before .args .bytes))) (c .before .before .before .before .before .before .before .pre .0))
 
 gather-requires : tie.Need-gather-requires
 gather-requires c κs =

@@ -9,7 +9,7 @@ use Rattle.lines.proofs.segment.Statement.{statement}
 use Rattle.lines.proofs.segment.Tie as tie
 
 drive-requires : tie.Need-drive-requires
-drive-requires c κs = c .before .before .before .before .before .before .before .before .pre .0 .0
+drive-requires c κs = c .before .before .before .before .before .before .before .before .pre .0
 
 enum-known-answer : tie.Need-enum-known-answer
 enum-known-answer c = search needs

@@ -10,7 +10,7 @@ use Rattle.reader.proofs.check_chunk.Statement.{statement}
 use Rattle.reader.proofs.check_chunk.Tie as tie
 
 returns : tie.Need-returns
-returns c = sym (checks-long (now (c .before .before .args .chunk)) (c .if1 .taken))
+returns c = sym (checks-long (now (c .before .before .args .chunk)) (omega (arith, c .if1 .taken)))
 
 returns-2 : tie.Need-returns-2
 returns-2 c = sym (checks-bare (now (c .before .before .before .args .chunk)) (omega (arith, c .if2 .taken)))
@@ -21,7 +21,7 @@ shared-slice-read-first c = search needs
 returns-3 : tie.Need-returns-3
 returns-3 c =
     sym
-    (checks-major (now (c .before .before .before .before .before .args .chunk)) (c .before .before .before .if1 .left) (c .before .before .if2 .left) (c .if3 .taken))
+    (checks-major (now (c .before .before .before .before .before .args .chunk)) (omega (arith, c .before .before .before .if1 .left)) (c .before .before .if2 .left) (c .if3 .taken))
 
 cast-h : tie.Need-cast-h
 cast-h c = search needs

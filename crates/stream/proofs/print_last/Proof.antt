@@ -1,27 +1,25 @@
--- `stream::print_last` is safe: the last line ends within the output. Assumes nothing.
-use native.Mathlib.Omega.{arith}
-use mathlib.Core.Path.{sym}
+-- `stream::print_last` meets its contract: the last line stands at the start of the output. Assumes nothing.
 use denote.Ref.{now}
+use mathlib.Core.Path.{sym}
 use lib.Seq.{length-take-le}
-use lib.ListN.{drop, take}
-use Rattle.lines.specs.Log.{entryIn, lastLine}
-use Rattle.lines.proofs.Laws.{last-small}
-use Rattle.stream.proofs.Laws.{put-inside}
+use Rattle.stream.proofs.Laws.{last-inside, last-front}
 use borrow.Author.Needs.{needs}
 use Rattle.stream.proofs.print_last.Statement.{statement}
 use Rattle.stream.proofs.print_last.Tie as tie
 
 slice-aggregate-finish : tie.Need-slice-aggregate-finish
-slice-aggregate-finish c = sym (length-take-le _ _ (c .before .before .before .pre .0))
+slice-aggregate-finish c = sym (length-take-le _ _ (c .before .before .before .pre .0 .1))
 
 finish-requires : tie.Need-finish-requires
 finish-requires c κs = search needs
 
 slice-reshare-prefix-write-all : tie.Need-slice-reshare-prefix-write-all
-slice-reshare-prefix-write-all c = put-inside (lastLine (entryIn (drop (c .before .before .before .before .before .before .before .args .at) (take (c .before .before .before .before .before .before .before .args .have) (now (c .before .before .before .before .before .before .before .args .block)))))) (now (c .before .before .before .before .before .before .before .args .out)) _ _ (c .before .before .finish .ensures) (omega (arith, last-small (entryIn (drop (c .before .before .before .before .before .before .before .args .at) (take (c .before .before .before .before .before .before .before .args .have) (now (c .before .before .before .before .before .before .before .args .block))))), c .before .before .before .before .before .before .before .pre .1))
+slice-reshare-prefix-write-all c =
+    let s = c .before .before .before .before .before .before .before in
+    last-inside (now (s .args .block)) (s .args .at) (s .args .have) (now (s .args .out)) _ _ (s .pre .0) (c .before .before .finish .ensures)
 
 slice-aggregate-write-all : tie.Need-slice-aggregate-write-all
-slice-aggregate-write-all c = sym (length-take-le _ _ (put-inside (lastLine (entryIn (drop (c .before .before .before .before .before .before .before .before .args .at) (take (c .before .before .before .before .before .before .before .before .args .have) (now (c .before .before .before .before .before .before .before .before .args .block)))))) (now (c .before .before .before .before .before .before .before .before .args .out)) _ _ (c .before .before .before .finish .ensures) (omega (arith, last-small (entryIn (drop (c .before .before .before .before .before .before .before .before .args .at) (take (c .before .before .before .before .before .before .before .before .args .have) (now (c .before .before .before .before .before .before .before .before .args .block))))), c .before .before .before .before .before .before .before .before .pre .1))))
+slice-aggregate-write-all c = sym (length-take-le _ _ (slice-reshare-prefix-write-all (c .before)))
 
 write-all-requires : tie.Need-write-all-requires
 write-all-requires c κs = search needs
@@ -30,7 +28,9 @@ same-length : tie.Need-same-length
 same-length c = search needs
 
 returns : tie.Need-returns
-returns c = search needs
+returns c =
+    let s = c .before .before .before .before .before .before .before .before .before in
+    last-front (now (s .args .block)) (s .args .at) (s .args .have) (now (s .args .out)) _ _ (s .pre .0) (c .before .before .before .before .finish .ensures)
 
 pub print-last-spec : {M : Type 1} → statement M
 print-last-spec =

@@ -1,5 +1,5 @@
 -- `stream::read_more` meets its contract: only bytes from have on are lent to the read. Assumes nothing.
-use Prim.Native.Nat.{_-_}
+use Prim.Native.Nat.{_-_, _≤_}
 use native.Mathlib.Omega.{arith}
 use denote.Ref.{now}
 use lib.ListN.{length}
@@ -30,7 +30,12 @@ same-length : tie.Need-same-length
 same-length c = search needs
 
 returns : tie.Need-returns
-returns c = (omega (arith, c .before .before .count .ensures .0 .0, c .before .before .before .before .before .before .read .kept .1 .0, c .before .before .before .before .before .before .before .before .before .before .pre), take-put (c .before .before .before .before .before .before .before .before .before .before .args .have) (length (now (c .before .before .before .before .before .before .before .before .before .before .args .block)) - c .before .before .before .before .before .before .before .before .before .before .args .have) (now (c .before .before .before .before .before .before .before .before .before .before .args .block)) (c .before .before .before .before .before .before .read .last .1 .0) (c .before .before .before .before .before .before .before .before .before .before .pre))
+returns c =
+    let s = c .before .before .before .before .before .before .before .before .before .before in
+    let all = now (s .args .block) in
+    let got = c .before .before .before .before .before .before .read in
+    let inside : s .args .have ≤ length all = omega (arith, s .pre) in
+    (omega (arith, c .before .before .count .ensures .0 .0, got .kept .1 .0, inside), take-put (s .args .have) (length all - s .args .have) all (got .last .1 .0) inside)
 
 pub read-more-spec : {M : Type 1} → statement M
 read-more-spec =

@@ -1,9 +1,6 @@
 -- `stream::refill` meets its contract: moved down, then read behind. Assumes nothing.
-use Prim.Native.Nat.{_-_}
-use native.Mathlib.Omega.{arith}
-use mathlib.Core.Path.{refl}
 use denote.Ref.{now}
-use Rattle.stream.proofs.Laws.{unread-kept}
+use Rattle.stream.proofs.Laws.{refilled}
 use borrow.Author.Needs.{needs}
 use Rattle.stream.proofs.refill.Statement.{statement}
 use Rattle.stream.proofs.refill.Tie as tie
@@ -18,7 +15,11 @@ same-length : tie.Need-same-length
 same-length c = search needs
 
 returns : tie.Need-returns
-returns c = ((refl, omega (arith, c .before .before .read-more .ensures .0, c .before .before .before .before .before .before .move-down .ensures .0), omega (arith, c .before .before .read-more .ensures .0, c .before .before .before .before .before .before .move-down .kept .0)), unread-kept (c .before .before .before .before .before .before .before .before .before .args .have - c .before .before .before .before .before .before .before .before .before .args .at) (now (c .before .before .before .before .before .before .before .before .before .args .block)) _ _ _ (c .before .before .before .before .before .before .before .before .before .args .at) (c .before .before .before .before .before .before .move-down .ensures .0) (c .before .before .read-more .ensures .1) (c .before .before .before .before .before .before .move-down .ensures .1))
+returns c =
+    let s = c .before .before .before .before .before .before .before .before .before in
+    let moved = c .before .before .before .before .before .before .move-down in
+    let got = c .before .before .read-more in
+    refilled (now (s .args .block)) _ _ (s .args .at) (s .args .have) (moved .result) (got .result) (s .pre .2) (moved .ensures .0) (moved .ensures .1) (got .kept .1 .0) (got .ensures .0) (got .ensures .1)
 
 pub refill-spec : {M : Type 1} → statement M
 refill-spec = tie.close (tie.spec move-down-requires read-more-requires same-length returns)

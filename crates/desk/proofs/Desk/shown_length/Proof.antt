@@ -1,10 +1,7 @@
--- `desk::Desk::shown_length` meets its contract. Assumes nothing.
+-- `desk::Desk::shown_length` meets its contract: the listing's length where both tests pass. Assumes nothing.
 use mathlib.Core.Path.{sym, _∙_}
-use borrow.Author.Tests.{not-true, not-false}
-use mathlib.Core.Path.{ap}
-use Rattle.meaning.specs.declared.Kind.{Kind}
-use Rattle.desk.specs.Desks.{lengthFor}
-use Rattle.desk.proofs.Laws.{shown-unfit, shown-first, shown-second, shown-both}
+use mathlib.Core.Logic.{⊎-elim}
+use Rattle.desk.proofs.Laws.{shown-unfit, shown-short, shown-long}
 use borrow.Author.Needs.{needs}
 use Rattle.desk.proofs.Desk.shown_length.Statement.{statement}
 use Rattle.desk.proofs.Desk.shown_length.Tie as tie
@@ -12,36 +9,23 @@ use Rattle.desk.proofs.Desk.shown_length.Tie as tie
 well-formed-requires : tie.Need-well-formed-requires
 well-formed-requires c κs = search needs
 
+roomy-requires : tie.Need-roomy-requires
+roomy-requires c κs = search needs
+
+listed-for-requires : tie.Need-listed-for-requires
+listed-for-requires c κs = search needs
+
 returns : tie.Need-returns
-returns c = shown-unfit _ _ _ _ (sym (c .before .well-formed .ensures) ∙ not-true _ (c .if1 .taken))
+returns c =
+    let l = c .before .before in
+    let r = l .before .before in
+    l .listed-for .ensures ∙ shown-long _ _ _ _ (sym (r .before .well-formed .ensures) ∙ c .before .if1 .taken) (sym (r .roomy .ensures) ∙ c .if2 .taken)
 
 returns-2 : tie.Need-returns-2
-returns-2 c = shown-first _ _ _ _ (sym (c .before .before .well-formed .ensures) ∙ not-false _ (c .before .if1 .left)) (c .if2 .taken)
-
-returns-3 : tie.Need-returns-3
-returns-3 c = shown-second _ _ _ _ (sym (c .before .before .before .well-formed .ensures) ∙ not-false _ (c .before .before .if1 .left)) (c .before .if2 .left) (c .if3 .taken)
-
-enum-told : tie.Need-enum-told
-enum-told c = search needs
-
-enum-told-2 : tie.Need-enum-told-2
-enum-told-2 c = search needs
-
-returns-4 : tie.Need-returns-4
-returns-4 c = sym (ap (λ (k : Kind). lengthFor k (c .before .before .before .before .before .before .before .before .before .args .self .marks)) (c .enum-told .given .1)) ∙ shown-both _ _ _ _ (sym (c .before .before .before .before .before .before .well-formed .ensures) ∙ not-false _ (c .before .before .before .before .before .if1 .left)) (c .before .before .before .before .if2 .left) (c .before .before .before .if3 .left)
-
-returns-5 : tie.Need-returns-5
-returns-5 c = sym (ap (λ (k : Kind). lengthFor k (c .before .before .before .before .before .before .before .before .before .args .self .marks)) (c .enum-told2 .given .1)) ∙ shown-both _ _ _ _ (sym (c .before .before .before .before .before .before .well-formed .ensures) ∙ not-false _ (c .before .before .before .before .before .if1 .left)) (c .before .before .before .before .if2 .left) (c .before .before .before .if3 .left)
+returns-2 c =
+    let r = c .before .before .before in
+    ⊎-elim (λ w. shown-short _ _ _ _ (sym (r .roomy .ensures) ∙ w .1 .left)) (λ w. shown-unfit _ _ _ _ (sym (r .before .well-formed .ensures) ∙ w .left)) (c .if1 .came)
 
 pub shown-length-spec : {M : Type 1} → statement M
 shown-length-spec =
-    tie.close
-    (tie.spec
-    well-formed-requires
-    returns
-    returns-2
-    returns-3
-    enum-told
-    enum-told-2
-    returns-4
-    returns-5)
+    tie.close (tie.spec well-formed-requires roomy-requires listed-for-requires returns returns-2)

@@ -1,11 +1,11 @@
--- `stream::copy` meets what `run` asks: a fresh desk is well formed. Assumes nothing.
-use native.Mathlib.Omega.{arith}
+-- `stream::print` meets its contract: a fresh desk is well formed, and the output holds the longest lines. Assumes nothing.
 use mathlib.Core.Path.{ap, _∙_}
 use Rattle.desk.specs.Desks.{wellFormed}
 use Rattle.desk.proofs.Keeps.{fresh-fits}
+use native.Mathlib.Omega.{arith}
 use borrow.Author.Needs.{needs}
-use Rattle.stream.proofs.copy.Statement.{statement}
-use Rattle.stream.proofs.copy.Tie as tie
+use Rattle.stream.proofs.print.Statement.{statement}
+use Rattle.stream.proofs.print.Tie as tie
 
 fresh-requires : tie.Need-fresh-requires
 fresh-requires c κs = search needs
@@ -26,7 +26,8 @@ slice-aggregate-run-4 : tie.Need-slice-aggregate-run-4
 slice-aggregate-run-4 c = search needs
 
 run-requires : tie.Need-run-requires
-run-requires c κs = ((ap wellFormed (c .before .before .before .before .before .before .before .before .fresh .ensures) ∙ fresh-fits, omega arith, omega arith), omega arith)
+run-requires c κs =
+    ((ap wellFormed (c .before .before .before .before .before .before .before .before .fresh .ensures) ∙ fresh-fits, omega arith, omega arith), (omega arith, c .before .before .before .before .before .before .before .before .before .before .pre))
 
 same-length : tie.Need-same-length
 same-length c = search needs
@@ -34,8 +35,8 @@ same-length c = search needs
 returns : tie.Need-returns
 returns c = search needs
 
-pub copy-spec : {M : Type 1} → statement M
-copy-spec =
+pub print-spec : {M : Type 1} → statement M
+print-spec =
     tie.close
     (tie.spec
     fresh-requires
