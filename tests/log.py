@@ -7,7 +7,7 @@ import sys
 
 sys.dont_write_bytecode = True
 
-from samples import read
+from reader import read
 
 ROOM = 1292
 

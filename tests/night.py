@@ -1,4 +1,4 @@
-"""The longest of the stored logs of tests/logs.py: a night of chance, with a fixed seed."""
+"""The longest of the stored logs of tests/log_samples.py: a night of chance, with a fixed seed."""
 from pieces import Dice, bent, chance, chunk, cut, turned
 
 

@@ -1,4 +1,4 @@
-"""What the stored logs of tests/logs.py are made of: lists, their listings, chunks, SG records, and steps, from document 01.
+"""What the stored logs of tests/log_samples.py are made of: lists, their listings, chunks, SG records, and steps, from document 01.
 
 A list is its transport_stream_id and its ensembles: (id, flags, channel version, services), a service being (id, multi, status, SP).
 A step is a record and the answer to it.

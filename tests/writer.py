@@ -1,7 +1,7 @@
 #!/usr/bin/env python3
-"""Prints what crates/writes must write: document 01's writer once more, in Python, from the document alone.
+"""Prints what crates/writer_samples must write: document 01's writer once more, in Python, from the document alone.
 
-    python3 tests/writer.py > crates/writes/stdout
+    python3 tests/writer.py > crates/writer_samples/stdout
 
 What is accepted is also given to the desk of tests/log.py, which has to list it again.
 """

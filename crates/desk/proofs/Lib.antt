@@ -1,10 +1,3 @@
 pub mod Parts
-pub mod Roles
-pub mod Keeps
-pub mod Frames
-pub mod Apart
-pub mod Reserved
-pub mod Refusals
-pub mod Accepted
-pub mod Calls
+pub mod Ready
 pub mod Laws

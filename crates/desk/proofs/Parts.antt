@@ -8,61 +8,45 @@ use lib.ListN.{length, take, drop, length-append, length-drop, length-replicate,
 use lib.Seq.{take-all, take-at, drop-at}
 use Rattle.meaning.specs.declared.Kind.{Kind}
 use Rattle.meaning.specs.declared.Kind.the-variants.{This, Next}
-use Rattle.meaning.specs.Sizes.{longestChunk}
-use Rattle.meaning.specs.Lists.{currentOf}
+use Rattle.meaning.specs.Sizes.{longestChunk, longestListing}
 use Rattle.slots.specs.Slots.{noBytes, slotFits}
-use Rattle.slots.specs.Gathering.{Outcome}
 use Rattle.slots.proofs.Keeps.{slot-numbers}
+use Rattle.notes.specs.Notes.{lengthFits, slotFor, lengthFor}
+use Rattle.notes.proofs.Laws.{length-small}
 use Rattle.desk.specs.declared.Desk.{Desk}
-use Rattle.desk.specs.Desks.{lengthFits, wellFormed, bytesFor, slotFor, lengthFor, otherKind, bytesWith, altered}
+use Rattle.desk.specs.Desks.{wellFormed, bytesFor, bytesWith}
 
 -- ---- a desk by its parts
 
-pub desk-parts : (d : Desk) → wellFormed d ≡ true → (lengthFits (d .marks .shown) ≡ true) × (lengthFits (d .marks .coming) ≡ true) × (slotFits (d .marks .this) (bytesFor This d) ≡ true) × (slotFits (d .marks .next) (bytesFor Next d) ≡ true)
+pub desk-parts : (d : Desk) → wellFormed d ≡ true → (lengthFits (d .notes .shown) ≡ true) × (lengthFits (d .notes .coming) ≡ true) × (slotFits (d .notes .this) (bytesFor This d) ≡ true) × (slotFits (d .notes .next) (bytesFor Next d) ≡ true)
 unfolding wellFormed
 desk-parts d e =
-    let p = and-eq-true-iff (lengthFits (d .marks .shown) && lengthFits (d .marks .coming)) _ .0 e in
-    let l = and-eq-true-iff (lengthFits (d .marks .shown)) (lengthFits (d .marks .coming)) .0 (p .0) in
-    let s = and-eq-true-iff (slotFits (d .marks .this) (bytesFor This d)) (slotFits (d .marks .next) (bytesFor Next d)) .0 (p .1) in
+    let p = and-eq-true-iff (lengthFits (d .notes .shown) && lengthFits (d .notes .coming)) _ .0 e in
+    let l = and-eq-true-iff (lengthFits (d .notes .shown)) (lengthFits (d .notes .coming)) .0 (p .0) in
+    let s = and-eq-true-iff (slotFits (d .notes .this) (bytesFor This d)) (slotFits (d .notes .next) (bytesFor Next d)) .0 (p .1) in
     (l .0, l .1, s .0, s .1)
-
-pub parts-desk : (d : Desk) → lengthFits (d .marks .shown) ≡ true → lengthFits (d .marks .coming) ≡ true → slotFits (d .marks .this) (bytesFor This d) ≡ true → slotFits (d .marks .next) (bytesFor Next d) ≡ true → wellFormed d ≡ true
-unfolding wellFormed
-parts-desk d l m s t = simp (l, m, s, t)
 
 -- by kind: the length of its listing and its slot fit
 abbrev pub Fits : Kind → Desk → Type 0
-Fits k d = (lengthFits (lengthFor k (d .marks)) ≡ true) × (slotFits (slotFor k (d .marks)) (bytesFor k d) ≡ true)
+Fits k d = (lengthFits (lengthFor k (d .notes)) ≡ true) × (slotFits (slotFor k (d .notes)) (bytesFor k d) ≡ true)
 
 pub kind-fits : (k : Kind) (d : Desk) → wellFormed d ≡ true → Fits k d
 kind-fits This d w = let p = desk-parts d w in (p .0, p .2)
 kind-fits Next d w = let p = desk-parts d w in (p .1, p .3)
 
-pub kinds-fit : (k : Kind) (d : Desk) → Fits k d → Fits (otherKind k) d → wellFormed d ≡ true
-kinds-fit This d p q = parts-desk d (p .0) (q .0) (p .1) (q .1)
-kinds-fit Next d p q = parts-desk d (q .0) (p .0) (q .1) (p .1)
+pub lengthFor-small : (k : Kind) (d : Desk) → wellFormed d ≡ true → lengthFor k (d .notes) ≤ longestListing
+lengthFor-small k d w = length-small (lengthFor k (d .notes)) (kind-fits k d w .0)
 
 -- ---- the bytes of both slots
 
 pub both-bytes : (d : Desk) → bytesFor This d ++ bytesFor Next d ≡ d .bytes
 both-bytes d = take-append-drop longestChunk (d .bytes)
 
-pub same-bytes : (d e : Desk) → bytesFor This d ≡ bytesFor This e → bytesFor Next d ≡ bytesFor Next e → d .bytes ≡ e .bytes
-same-bytes d e p q = sym (both-bytes d) ∙ ap₂ _++_ p q ∙ both-bytes e
-
 pub length-bytes : (k : Kind) (d : Desk) → wellFormed d ≡ true → length (bytesFor k d) ≡ longestChunk
-length-bytes k d w = slot-numbers (slotFor k (d .marks)) (bytesFor k d) (kind-fits k d w .1) .0
+length-bytes k d w = slot-numbers (slotFor k (d .notes)) (bytesFor k d) (kind-fits k d w .1) .0
 
 pub length-desk : (d : Desk) → wellFormed d ≡ true → length (d .bytes) ≡ longestChunk + longestChunk
 length-desk d w = sym (ap length (both-bytes d)) ∙ length-append (bytesFor This d) (bytesFor Next d) ∙ ap₂ _+_ (length-bytes This d w) (length-bytes Next d w)
-
--- in the desk that an outcome alters, that kind's are the outcome's and the other kind's are as they were
-pub altered-bytes : (k : Kind) (d : Desk) (o : Outcome) → wellFormed d ≡ true → length (o .side .bytes) ≡ longestChunk → (bytesFor k (altered k d o) ≡ o .side .bytes) × (bytesFor (otherKind k) (altered k d o) ≡ bytesFor (otherKind k) d)
-altered-bytes This d o w long =
-    (take-at (o .side .bytes) (bytesFor Next d) longestChunk long, drop-at (o .side .bytes) (bytesFor Next d) longestChunk long)
-altered-bytes Next d o w long =
-    let l = length-bytes This d w in
-    (drop-at (bytesFor This d) (o .side .bytes) longestChunk l, take-at (bytesFor This d) (o .side .bytes) longestChunk l)
 
 pub start-low : {k : Kind} {at : ℕ} → (k ≡ This → at ≡ 0) × (k ≡ Next → at ≡ longestChunk) → at ≤ longestChunk
 start-low {k = This} is = omega (arith, is .0 refl)
@@ -97,7 +81,3 @@ module _ (n : ℕ) (xs zs : List ℕ) (long : length xs ≡ n + n) (size : lengt
       let h = ap length a ∙ size in
       let all : length (drop n ys) ≤ length ys - n = omega (arith, length-halves, length-drop n ys) in
       ap₂ _++_ (take-at one (drop n xs) n h ∙ a) (ap (λ (r : List ℕ). two ++ r) (drop-of-length-le (drop n ys) {i = length ys - n} all) ∙ append-nil two ∙ b)
-
--- the two kinds differ
-pub this≢next : This ≡ Next → ⊥
-this≢next e = let z : _≡_ {A = ℕ} 1 0 = ap currentOf e in absurd (omega arith)

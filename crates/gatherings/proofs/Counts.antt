@@ -7,9 +7,9 @@ use native.Mathlib.Omega.{arith}
 use borrow.Author.Tests.{eq-eqb, ne-eqb}
 use lib.Dec.{eqb}
 use Rattle.octets.specs.Each.{Each}
+use Rattle.octets.specs.Checks.{among}
 use Rattle.meaning.specs.declared.Kind.{Kind}
-use Rattle.meaning.specs.Numbers.{among}
-use Rattle.slots.specs.declared.Answer.the-variants.{Missing, Listed}
+use Rattle.slots.specs.declared.Answer.the-variants.{Missing, NewList}
 use Rattle.gatherings.specs.Once.{different, pieceAnswers, pieceCounts}
 use Rattle.gatherings.proofs.Sets.{different-all, different-fewer}
 
@@ -29,7 +29,7 @@ module _ (n : ℕ) (k : Kind) (size : ℕ) where
 
   -- the piece i has not come yet
   module _ (i : ℕ) (small : i < n) (after : List ℕ) (behind : Each (λ j. j < n) after) where
-    answers-before : (came before : List ℕ) → Each (λ j. j < n) came → Each (λ j. j < n) before → among came i ≡ false → among before i ≡ false → ((j : ℕ) → j < n → eqb j i || (among before j || among came j) ≡ true) → pieceAnswers n k size came (before ++ i ∷ after) ≡ pieceCounts n came before ++ (Listed k size ∷ map (λ j. Missing 0) after)
+    answers-before : (came before : List ℕ) → Each (λ j. j < n) came → Each (λ j. j < n) before → among came i ≡ false → among before i ≡ false → ((j : ℕ) → j < n → eqb j i || (among before j || among came j) ≡ true) → pieceAnswers n k size came (before ++ i ∷ after) ≡ pieceCounts n came before ++ (NewList k size ∷ map (λ j. Missing 0) after)
     answers-before came [] inside h q p all =
         let more : different (i ∷ came) ≡ suc (different came) = simp q in
         let none : n - suc (different came) ≡ 0 = omega (arith, different-all n (i ∷ came) (small, inside) all) in
@@ -42,6 +42,6 @@ module _ (n : ℕ) (k : Kind) (size : ℕ) where
         (answers-before (j ∷ came) more (h .0, inside) (h .1) (simp (apart .0, q)) (apart .1) (λ x l. ap (λ (b : Bool). eqb x i || b) (sym (or-assoc (among more x) (eqb x j) (among came x)) ∙ ap (λ (b : Bool). b || among came x) (or-comm (among more x) (eqb x j))) ∙ all x l))
 
 -- of n pieces those in `before` come, then the last missing one, i, then those in `after`
-pub answers-read : (n : ℕ) (k : Kind) (size : ℕ) (before : List ℕ) (i : ℕ) (after : List ℕ) → Each (λ j. j < n) before → i < n → Each (λ j. j < n) after → among before i ≡ false → ((j : ℕ) → j < n → among (i ∷ before) j ≡ true) → pieceAnswers n k size [] (before ++ i ∷ after) ≡ pieceCounts n [] before ++ (Listed k size ∷ map (λ j. Missing 0) after)
+pub answers-read : (n : ℕ) (k : Kind) (size : ℕ) (before : List ℕ) (i : ℕ) (after : List ℕ) → Each (λ j. j < n) before → i < n → Each (λ j. j < n) after → among before i ≡ false → ((j : ℕ) → j < n → among (i ∷ before) j ≡ true) → pieceAnswers n k size [] (before ++ i ∷ after) ≡ pieceCounts n [] before ++ (NewList k size ∷ map (λ j. Missing 0) after)
 answers-read n k size before i after h small behind new all =
     answers-before n k size i small after behind [] before tt h refl new (λ j l. ap (λ (b : Bool). eqb j i || b) (or-false (among before j)) ∙ all j l)

@@ -10,7 +10,7 @@ use Rattle.meaning.specs.Layout.{Carries}
 use Rattle.meaning.proofs.Checks.{header-passes}
 use Rattle.meaning.proofs.Complete.{carried-accepted}
 use Rattle.meaning.proofs.Plain.{bytes-carried, stuffed-carried}
-use Rattle.segments.specs.Cut.{segmentsFor, Choice, Suits, pieceOf}
+use Rattle.segments.specs.Cut.{segmentCount, Choice, Suits, pieceOf}
 use Rattle.segments.proofs.Cut.{piece-read, piece-passes}
 use Rattle.gatherings.proofs.Pieces.{Piece}
 
@@ -18,7 +18,7 @@ module _ {ys : List ℕ} {k : Kind} {m : ℕ} {l : FicList} {c : Choice} (h : Ca
   pub cut-carried : Carries (ys ++ c .fill) k m l
   cut-carried = stuffed-carried h (c .fill) (suits .bytes) (omega (arith, suits .whole, h .allowed .room, ap length (h .bytes)))
 
-  pub cut-piece : (i : ℕ) → i < segmentsFor (length ys) → Piece (segmentsFor (length ys)) (ys ++ c .fill) k i (pieceOf ys c i)
+  pub cut-piece : (i : ℕ) → i < segmentCount (length ys) → Piece (segmentCount (length ys)) (ys ++ c .fill) k i (pieceOf ys c i)
   cut-piece i inside =
       let a = carried-accepted h in
       let p = header-passes ys (a .passes) .0 in

@@ -13,15 +13,17 @@ use Rattle.meaning.specs.Listing.{listing}
 use Rattle.meaning.specs.Reading.{Accepts}
 use Rattle.segments.specs.Segment.{payloadBytes}
 use Rattle.slots.specs.declared.Answer.{Answer}
-use Rattle.slots.specs.declared.Answer.the-variants.{Missing, Listed}
+use Rattle.slots.specs.declared.Answer.the-variants.{Missing, NewList}
 use Rattle.slots.specs.Slots.{emptySlot, holds, including, slotFits}
 use Rattle.slots.specs.Gathering.{Side, side, Outcome, outcome, hold, gathered}
 use Rattle.slots.proofs.Bits.{holds-none}
+use Rattle.notes.specs.Notes.{slotFor, lengthFor, lentFor}
 use Rattle.desk.specs.declared.Desk.{Desk}
-use Rattle.desk.specs.Desks.{wellFormed, slotFor, bytesFor, lengthFor, lentFor, After, after, segmentAfter}
-use Rattle.desk.proofs.Roles.{own, Takes, unlisted-becomes, missing-unchanged, segment-comes}
-use Rattle.desk.proofs.Keeps.{gathering-good, gathering-fits, segment-fits}
-use Rattle.desk.proofs.Refusals.{slot-fits}
+use Rattle.desk.specs.Desks.{wellFormed, bytesFor, After, after, segmentAfter}
+use Rattle.desk.proofs.Laws.{gathering-good}
+use Rattle.effects.proofs.Ways.{own, Takes, unlisted-becomes, missing-unchanged, segment-comes}
+use Rattle.effects.proofs.Keeps.{gathering-fits, segment-fits}
+use Rattle.effects.proofs.Refusals.{slot-fits}
 use Rattle.gatherings.specs.Deliveries.{AtStart}
 use Rattle.gatherings.proofs.Pieces.{Piece, OnlyPieces, gathered-held, hold-pieces, gathered-free, gathered-all}
 
@@ -29,16 +31,16 @@ use Rattle.gatherings.proofs.Pieces.{Piece, OnlyPieces, gathered-held, 
 
 pub record Gathers (n : ℕ) (whole : List ℕ) (k : Kind) (d : Desk) : Type 0 where
   pub formed : wellFormed d ≡ true
-  pub only : OnlyPieces n whole (slotFor k (d .marks)) (bytesFor k d)
+  pub only : OnlyPieces n whole (slotFor k (d .notes)) (bytesFor k d)
 
 -- at the beginning of a gathering it holds none
 module _ (d : Desk) (start : AtStart d) where
   start-formed : wellFormed d ≡ true
   start-formed = subst (λ (e : Desk). wellFormed e ≡ true) start (gathering-fits d)
 
-  pub start-empty : (k : Kind) → slotFor k (d .marks) ≡ emptySlot
-  start-empty This = ap (λ (e : Desk). e .marks .this) (sym start ∙ gathering-good d start-formed)
-  start-empty Next = ap (λ (e : Desk). e .marks .next) (sym start ∙ gathering-good d start-formed)
+  pub start-empty : (k : Kind) → slotFor k (d .notes) ≡ emptySlot
+  start-empty This = ap (λ (e : Desk). e .notes .this) (sym start ∙ gathering-good d start-formed)
+  start-empty Next = ap (λ (e : Desk). e .notes .next) (sym start ∙ gathering-good d start-formed)
 
   pub start-gathers : (n : ℕ) (whole : List ℕ) (k : Kind) → Gathers n whole k d
   start-gathers n whole k =
@@ -55,7 +57,7 @@ module _ (d : Desk) (start : AtStart d) where
 
 module _ {n : ℕ} {whole : List ℕ} {k : Kind} {i : ℕ} {xs : List ℕ} (p : Piece n whole k i xs) (d : Desk) (g : Gathers n whole k d) (first second : List ℕ) (one : longestListing ≤ length first) (two : longestListing ≤ length second) where
   abbrev swapped : Bool
-  swapped = d .marks .swapped
+  swapped = d .notes .swapped
 
   abbrev before : Side
   before = own k d first second
@@ -64,9 +66,9 @@ module _ {n : ℕ} {whole : List ℕ} {k : Kind} {i : ℕ} {xs : List ℕ} (p : 
   result = segmentAfter d xs first second
 
   abbrev held : ℕ
-  held = slotFor k (d .marks) .held
+  held = slotFor k (d .notes) .held
 
-  fits : slotFits (slotFor k (d .marks)) (bytesFor k d) ≡ true
+  fits : slotFits (slotFor k (d .notes)) (bytesFor k d) ≡ true
   fits = slot-fits k d (g .formed)
 
   piece-comes : {o : Outcome} → o ≡ gathered k xs before → Takes k d first second o result
@@ -81,21 +83,21 @@ module _ {n : ℕ} {whole : List ℕ} {k : Kind} {i : ℕ} {xs : List ℕ} (p : 
     abbrev more : Side
     more = hold xs before
 
-    piece-held : {a : Answer} {buffer : List ℕ} → Takes k d first second (outcome a (side (more .slot) (more .bytes) buffer)) result → (result .answer ≡ a) × Gathers n whole k (result .desk) × (slotFor k (result .desk .marks) .held ≡ including held i)
+    piece-held : {a : Answer} {buffer : List ℕ} → Takes k d first second (outcome a (side (more .slot) (more .bytes) buffer)) result → (result .answer ≡ a) × Gathers n whole k (result .desk) × (slotFor k (result .desk .notes) .held ≡ including held i)
     piece-held h = (
       h .answer,
       record { formed = segment-fits d xs first second (g .formed); only = rw (h .slot, h .bytes) (hold-pieces p before (g .only) fits free) },
       rw (h .slot, p .number) refl,
     )
 
-    pub piece-more : suc (ones held) < n → (result .answer ≡ Missing (n - suc (ones held))) × Gathers n whole k (result .desk) × (slotFor k (result .desk .marks) .held ≡ including held i) × (lengthFor k (result .desk .marks) ≡ lengthFor k (d .marks)) × (result .first ≡ first) × (result .second ≡ second)
+    pub piece-more : suc (ones held) < n → (result .answer ≡ Missing (n - suc (ones held))) × Gathers n whole k (result .desk) × (slotFor k (result .desk .notes) .held ≡ including held i) × (lengthFor k (result .desk .notes) ≡ lengthFor k (d .notes)) × (result .first ≡ first) × (result .second ≡ second)
     piece-more l =
         let h = piece-comes (gathered-free p before (g .only) fits free l) in
         let q = piece-held h in
         let b = unlisted-becomes h (λ m. refl) refl in
         (q .0, q .1, q .2, b .2, b .3, b .4)
 
-    pub piece-last : {m : ℕ} {l : FicList} → length whole ≡ payloadBytes * n → Accepts whole k m l → suc (ones held) ≡ n → (result .answer ≡ Listed k (length (listing l))) × Gathers n whole k (result .desk) × (slotFor k (result .desk .marks) .held ≡ including held i) × (lengthFor k (result .desk .marks) ≡ length (listing l)) × (lentFor k swapped (result .first) (result .second) ≡ listing l ++ drop (length (listing l)) (lentFor k swapped first second))
+    pub piece-last : {m : ℕ} {l : FicList} → length whole ≡ payloadBytes * n → Accepts whole k m l → suc (ones held) ≡ n → (result .answer ≡ NewList k (length (listing l))) × Gathers n whole k (result .desk) × (slotFor k (result .desk .notes) .held ≡ including held i) × (lengthFor k (result .desk .notes) ≡ length (listing l)) × (lentFor k swapped (result .first) (result .second) ≡ listing l ++ drop (length (listing l)) (lentFor k swapped first second))
     piece-last size accepts all =
         let h = piece-comes (gathered-all p before (g .only) fits free size accepts all) in
         let q = piece-held h in

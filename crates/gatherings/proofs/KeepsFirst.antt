@@ -8,8 +8,8 @@ use lib.ListN.{length, getD, drop, replicate}
 use lib.Count.{ones, onesIn}
 use Rattle.octets.specs.Bits.{bits, laid, number, octets, bytesOf}
 use Rattle.octets.specs.Each.{Each}
+use Rattle.octets.specs.Checks.{among}
 use Rattle.meaning.specs.declared.Kind.the-variants.{This}
-use Rattle.meaning.specs.Numbers.{among}
 use Rattle.meaning.specs.Sizes.{longestListing}
 use Rattle.meaning.specs.Lists.{Service, FicList}
 use Rattle.meaning.specs.Layout.{serviceFields, ensembleFields, chunkFields, wire, Carries}
@@ -19,14 +19,15 @@ use Rattle.meaning.specs.Reading.{checks, ensemblesChecks, listIn, ensemblesAt,
 use Rattle.octets.proofs.Laws.{bytes-bytesOf}
 use Rattle.meaning.proofs.Sound.{accepted-carried}
 use Rattle.segments.specs.Segment.{headFields, segment, segmentChecks}
-use Rattle.segments.specs.Cut.{segmentsFor, pieceOf}
+use Rattle.segments.specs.Cut.{segmentCount, pieceOf}
 use Rattle.writer.specs.Writing.{plainly}
 use Rattle.writer.proofs.Sent.{plainly-suits}
 use Rattle.slots.specs.Slots.{zeros, slotFits, clashing}
 use Rattle.slots.specs.Gathering.{gathered, completed}
 use Rattle.desk.specs.Desks.{fresh, wellFormed, takenBy, segmentAfter}
-use Rattle.gatherings.specs.Deliveries.{Told, deliveredBy}
-use Rattle.gatherings.specs.Once.{Delivery, piece, callFor, Allowed, numbersOf, ListsAll, keepsFirst}
+use Rattle.desk.specs.Calls.{state, Ran, ranBy}
+use Rattle.gatherings.specs.Once.{Delivery, piece, callFor, MayCome, numbersOf, ListsAll}
+use Rattle.gatherings.specs.KeepsFirst.{keepsFirst}
 use Rattle.gatherings.proofs.Starts.{fresh-start}
 
 -- one ensemble with nine services: 36 bytes, so the last byte of the last service is alone in the second piece
@@ -49,12 +50,12 @@ deliveries = piece 0 1 1 longestListing longestListing ∷ piece 1 1 1 longestLi
 memory : List ℕ
 memory = zeros longestListing
 
-told : Told
-told = deliveredBy keepsFirst fresh (map (callFor chunk fill) deliveries) memory memory
+run : Ran
+run = ranBy keepsFirst (state fresh memory memory) (map (callFor chunk fill) deliveries)
 
 -- the last service's status is 0 there, and 3 in the list
-status-lost : getD (told .first) 72 0 ≡ 0
-unfolding told memory deliveries chunk list service deliveredBy keepsFirst pieceOf segment headFields wire chunkFields ensembleFields serviceFields bytesOf octets number laid bits flatMap segmentAfter takenBy wellFormed slotFits clashing gathered completed segmentChecks checks ensemblesChecks listIn ensemblesAt servicesAt listing ensembleListing ones onesIn
+status-lost : getD (run .left .first) 72 0 ≡ 0
+unfolding run memory deliveries chunk list service ranBy keepsFirst pieceOf segment headFields wire chunkFields ensembleFields serviceFields bytesOf octets number laid bits flatMap segmentAfter takenBy wellFormed slotFits clashing gathered completed segmentChecks checks ensemblesChecks listIn ensemblesAt servicesAt listing ensembleListing ones onesIn
 status-lost = refl
 
 status-sent : (rest : List ℕ) → getD (listing list ++ rest) 72 0 ≡ 3
@@ -69,19 +70,19 @@ long : longestListing ≤ length memory
 unfolding memory
 long = omega arith
 
-every : (i : ℕ) → i < segmentsFor (length chunk) → T (among (numbersOf deliveries) i)
+every : (i : ℕ) → i < segmentCount (length chunk) → T (among (numbersOf deliveries) i)
 unfolding deliveries chunk list service wire chunkFields ensembleFields serviceFields bytesOf octets number laid bits flatMap
 every zero l = tt
 every (suc zero) l = tt
 every (suc (suc i)) l = absurd (omega arith)
 
-allowed : Each (Allowed (segmentsFor (length chunk)) This) deliveries
+allowed : Each (MayCome (segmentCount (length chunk)) This) deliveries
 unfolding deliveries chunk list service wire chunkFields ensembleFields serviceFields bytesOf octets number laid bits flatMap
 allowed = omega arith
 
 pub first-not-enough : ListsAll keepsFirst → ⊥
-unfolding told
+unfolding run
 first-not-enough all =
     let c = all chunk This 0 list carried fill (plainly-suits chunk .bytes) (plainly-suits chunk .whole) deliveries allowed every fresh fresh-start memory memory long long in
-    let same : getD (told .first) 72 0 ≡ getD (listing list ++ drop (length (listing list)) memory) 72 0 = ap (λ (xs : List ℕ). getD xs 72 0) (c .own) in
+    let same : getD (run .left .first) 72 0 ≡ getD (listing list ++ drop (length (listing list)) memory) 72 0 = ap (λ (xs : List ℕ). getD xs 72 0) (c .own) in
     omega (arith, status-lost, status-sent (drop (length (listing list)) memory))

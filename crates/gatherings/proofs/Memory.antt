@@ -1,21 +1,22 @@
 -- What one call leaves of two memories, the first bytes of each lent to it. Assumes nothing.
 use mathlib.Core.Path.{_≡_, refl, sym, ap, ap₂, _∙_, subst}
 use mathlib.Core.Bool.{Bool, true, false, cond}
-use mathlib.Core.List.{List, [], _∷_, _++_, map, append-assoc, append-nil}
+use mathlib.Core.List.{List, [], _++_, append-assoc}
 use Prim.Native.Nat.{ℕ, _≤_}
 use native.Mathlib.Omega.{arith}
 use lib.ListN.{length, take, drop, length-append, take-append-drop}
-use lib.Seq.{length-front, take-length, drop-length, drop-append-le}
+use lib.Seq.{length-front, drop-append-le}
 use Rattle.meaning.specs.declared.Kind.{Kind}
 use Rattle.meaning.specs.Sizes.{longestListing}
 use Rattle.segments.specs.Segment.{segmentKind}
 use Rattle.slots.specs.declared.Answer.{Answer}
+use Rattle.notes.specs.Notes.{otherKind, firstServes, lentFor}
 use Rattle.desk.specs.declared.Desk.{Desk}
-use Rattle.desk.specs.Desks.{otherKind, firstServes, lentFor, After, after, segmentAfter}
-use Rattle.desk.specs.Effects.{Kept}
-use Rattle.desk.proofs.Keeps.{same-lengths}
-use Rattle.desk.proofs.Apart.{other-kept}
-use Rattle.gatherings.specs.Deliveries.{Call, deliveredBy, delivered, wholly}
+use Rattle.desk.specs.Desks.{After, after, segmentAfter}
+use Rattle.desk.specs.Calls.{Lending, state, lentBy}
+use Rattle.effects.specs.Effects.{Kept}
+use Rattle.effects.proofs.Keeps.{same-lengths}
+use Rattle.effects.proofs.Apart.{other-kept}
 
 -- ---- one of two
 
@@ -40,16 +41,16 @@ written-listing xs n memory l =
 
 -- both memories are long enough for a piece; swapped tells the buffers' roles
 abbrev pub Lent : Bool → Desk → List ℕ → List ℕ → Type 0
-Lent swapped d first second = (longestListing ≤ length first) × (longestListing ≤ length second) × (d .marks .swapped ≡ swapped)
+Lent swapped d first second = (longestListing ≤ length first) × (longestListing ≤ length second) × (d .notes .swapped ≡ swapped)
 
 -- its result, with all of both memories
-abbrev pub wide : Call → List ℕ → List ℕ → After → After
+abbrev pub wide : Lending → List ℕ → List ℕ → After → After
 wide c first second r = after (r .answer) (r .desk) (r .first ++ drop (c .first) first) (r .second ++ drop (c .second) second)
 
-abbrev pub called : Desk → Call → List ℕ → List ℕ → After
-called d c first second = wide c first second (segmentAfter d (c .segment) (take (c .first) first) (take (c .second) second))
+abbrev pub called : Desk → Lending → List ℕ → List ℕ → After
+called d c first second = lentBy segmentAfter (state d first second) c
 
-module _ (d : Desk) (c : Call) (first second : List ℕ) where
+module _ (d : Desk) (c : Lending) (first second : List ℕ) where
   abbrev one : List ℕ
   one = take (c .first) first
 
@@ -84,30 +85,8 @@ module _ (d : Desk) (c : Call) (first second : List ℕ) where
       ∙ written-listing xs n memory (omega (arith, size, ap length lent, ap length new, length-append xs (drop (length xs) (take n memory))))
 
   -- the other kind is left alone
-  pub called-kept : {k : Kind} → segmentKind (c .segment) ≡ k → Kept (d .marks .swapped) (otherKind k) d first second (called d c first second)
+  pub called-kept : {k : Kind} → segmentKind (c .segment) ≡ k → Kept (d .notes .swapped) (otherKind k) d first second (called d c first second)
   called-kept {k} e =
-      let t : Bool = d .marks .swapped in
+      let t : Bool = d .notes .swapped in
       let h = subst (λ (j : Kind). Kept t (otherKind j) d one two result) e (other-kept d (c .segment) one two) in
       (h .0, h .1, h .2, called-left (otherKind k) t [] (h .3), h .4)
-
--- ---- calls with all of both memories
-
-called-whole : (d : Desk) (xs first second : List ℕ) → called d (wholly first second xs) first second ≡ segmentAfter d xs first second
-called-whole d xs first second =
-    let r : After = segmentAfter d xs first second in
-    (λ i.
-    let o = segmentAfter d xs (take-length first i) (take-length second i) in
-    after (o .answer) (o .desk) (o .first ++ drop-length first i) (o .second ++ drop-length second i))
-    ∙ ap₂ (λ (x y : List ℕ). after (r .answer) (r .desk) x y) (append-nil (r .first)) (append-nil (r .second))
-
--- what is left is lent wholly again
-pub delivered-whole : (d : Desk) (xs : List ℕ) (more : List (List ℕ)) (first second : List ℕ) → let r = segmentAfter d xs first second in let t = delivered (r .desk) (map (wholly (r .first) (r .second)) more) (r .first) (r .second) in delivered d (map (wholly first second) (xs ∷ more)) first second ≡ record { answers = r .answer ∷ t .answers; desk = t .desk; first = t .first; second = t .second }
-unfolding deliveredBy
-delivered-whole d xs more first second =
-    let e = called-whole d xs first second in
-    let same = same-lengths d xs first second in
-    let one = sym (same .0) in
-    let two = sym (same .1) in
-    λ i.
-    let t = delivered (e i .desk) (map (λ ys. record { segment = ys; first = one i; second = two i }) more) (e i .first) (e i .second) in
-    record { answers = e i .answer ∷ t .answers; desk = t .desk; first = t .first; second = t .second }

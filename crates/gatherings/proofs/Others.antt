@@ -18,12 +18,13 @@ use Rattle.meaning.specs.declared.Checked.the-variants.{Fine, Fault}
 use Rattle.meaning.specs.Lists.{currentOf}
 use Rattle.segments.specs.Segment.{segmentKind, segmentChecks}
 use Rattle.slots.specs.declared.Answer.{Answer}
-use Rattle.slots.specs.declared.Answer.the-variants.{Missing, Listed, Refused}
+use Rattle.slots.specs.declared.Answer.the-variants.{Missing, NewList, Refused}
+use Rattle.notes.specs.Notes.{otherKind, tooShort}
 use Rattle.desk.specs.declared.Desk.{Desk}
-use Rattle.desk.specs.Desks.{wellFormed, otherKind, tooShort, After, after, segmentAfter}
-use Rattle.desk.specs.Effects.{Kept}
-use Rattle.desk.proofs.Frames.{listed-shown}
-use Rattle.gatherings.specs.Deliveries.{Call}
+use Rattle.desk.specs.Desks.{wellFormed, After, after, segmentAfter}
+use Rattle.desk.specs.Calls.{Lending}
+use Rattle.effects.specs.Effects.{Kept}
+use Rattle.effects.proofs.Frames.{listed-shown}
 use Rattle.gatherings.specs.Once.{listsOf}
 use Rattle.gatherings.proofs.Memory.{wide, called, wide-unchanged, called-kept}
 
@@ -40,9 +41,9 @@ abbrev pub Unlisted : Kind → Answer → Type 0
 Unlisted k a = (more : List Answer) → listsOf k (a ∷ more) ≡ listsOf k more
 
 module _ (k : Kind) where
-  other-unlisted : (a : Answer) → ((j : Kind) (n : ℕ) → a ≡ Listed j n → j ≡ otherKind k) → Unlisted k a
+  other-unlisted : (a : Answer) → ((j : Kind) (n : ℕ) → a ≡ NewList j n → j ≡ otherKind k) → Unlisted k a
   other-unlisted (Missing n) h more = refl
-  other-unlisted (Listed j n) h more =
+  other-unlisted (NewList j n) h more =
       ap (λ (i : Kind). cond (eqb (currentOf i) (currentOf k)) 1 0 + listsOf k more) (h j n refl)
       ∙ simp (other-apart k) (omega arith)
   other-unlisted (Refused f) h more = refl
@@ -59,14 +60,14 @@ refused-unchanged d xs first second bad P refused =
     go w s (Fault f) e = simp (w, s, e) (refused f)
     go w s Fine e = absurd (bad e)
 
-module _ (k : Kind) (d : Desk) (c : Call) (first second : List ℕ) where
+module _ (k : Kind) (d : Desk) (c : Lending) (first second : List ℕ) where
   abbrev Aside : After → Type 0
-  Aside r = Kept (d .marks .swapped) k d first second r × Unlisted k (r .answer)
+  Aside r = Kept (d .notes .swapped) k d first second r × Unlisted k (r .answer)
 
-  pub other-called : (segmentKind (c .segment) ≡ otherKind k) ⊎ (segmentChecks (c .segment) ≡ Fine → ⊥) → let r = called d c first second in Kept (d .marks .swapped) k d first second r × Unlisted k (r .answer)
+  pub other-called : (segmentKind (c .segment) ≡ otherKind k) ⊎ (segmentChecks (c .segment) ≡ Fine → ⊥) → let r = called d c first second in Kept (d .notes .swapped) k d first second r × Unlisted k (r .answer)
   other-called (inl e) =
       let r : After = called d c first second in (
-        subst (λ (j : Kind). Kept (d .marks .swapped) j d first second r) (other-twice k) (called-kept d c first second e),
+        subst (λ (j : Kind). Kept (d .notes .swapped) j d first second r) (other-twice k) (called-kept d c first second e),
         other-unlisted k (r .answer) (λ j n q. listed-shown d (c .segment) (take (c .first) first) (take (c .second) second) j n q .0 ∙ e),
       )
   other-called (inr bad) =

@@ -16,10 +16,10 @@ use Rattle.meaning.specs.declared.Checked.the-variants.{Fine}
 use Rattle.meaning.specs.Lists.{FicList, currentOf}
 use Rattle.meaning.specs.Listing.{listing}
 use Rattle.meaning.specs.Reading.{checks, kindIn, listIn, Accepts}
-use Rattle.segments.specs.Segment.{headBytes, payloadBytes, placeOf, segmentKind, segmentChecks, numberIn, lastIn, payloadIn}
+use Rattle.segments.specs.Segment.{segmentHeaderBytes, payloadBytes, placeOf, segmentKind, segmentChecks, numberIn, lastIn, payloadIn}
 use Rattle.segments.proofs.Places.{take-places}
 use Rattle.slots.specs.declared.Slot.{Slot}
-use Rattle.slots.specs.declared.Answer.the-variants.{Missing, Listed}
+use Rattle.slots.specs.declared.Answer.the-variants.{Missing, NewList}
 use Rattle.slots.specs.Slots.{holds, including, missingIn, slotFits, clashing, holding}
 use Rattle.slots.specs.Gathering.{Side, side, outcome, hold, chunkIn, completed, gathered}
 use Rattle.meaning.proofs.Plain.{current-kind}
@@ -90,7 +90,7 @@ module _ {n : ℕ} {whole : List ℕ} {k : Kind} {i : ℕ} {xs : List ℕ} (p : 
 
     pub hold-pieces : OnlyPieces n whole (holding (s .slot) xs) (hold xs s .bytes)
     hold-pieces =
-        let size : length (payloadIn xs) ≡ payloadBytes = omega (arith, length-drop headBytes xs, segment-passes xs (p .passes)) in
+        let size : length (payloadIn xs) ≡ payloadBytes = omega (arith, length-drop segmentHeaderBytes xs, segment-passes xs (p .passes)) in
         let room : payloadBytes * numberIn xs + payloadBytes ≤ length (s .bytes) =
         omega (arith, number-small xs (p .passes), slot-numbers (s .slot) (s .bytes) fits .0) in
         record {
@@ -131,7 +131,7 @@ module _ {n : ℕ} {whole : List ℕ} {k : Kind} {i : ℕ} {xs : List ℕ} (p : 
           (more-held ∙ all)
           (omega (arith, size))
 
-      pub gathered-all : outcome (Listed k (length (listing l))) (side (holding (s .slot) xs) (hold xs s .bytes) (listing l ++ drop (length (listing l)) (s .buffer))) ≡ gathered k xs s
+      pub gathered-all : outcome (NewList k (length (listing l))) (side (holding (s .slot) xs) (hold xs s .bytes) (listing l ++ drop (length (listing l)) (s .buffer))) ≡ gathered k xs s
       gathered-all =
           let chunk : List ℕ = chunkIn (hold xs s) in
           let list : listIn chunk ≡ l = ap listIn chunk-whole ∙ accepts .list in
@@ -139,6 +139,6 @@ module _ {n : ℕ} {whole : List ℕ} {k : Kind} {i : ℕ} {xs : List ℕ} (p : 
           let current : getD chunk 1 0 % 2 ≡ currentOf k = sym (current-kind (getD chunk 1 0 % 2) (omega arith)) ∙ ap currentOf kind in
           (λ j.
           let t = listing (sym list j) in
-          outcome (Listed k (length t)) (side (holding (s .slot) xs) (hold xs s .bytes) (t ++ drop (length t) (s .buffer))))
+          outcome (NewList k (length t)) (side (holding (s .slot) xs) (hold xs s .bytes) (t ++ drop (length t) (s .buffer))))
           ∙ sym (completed-listed k (hold xs s) (ap checks chunk-whole ∙ accepts .passes) current)
           ∙ gathered-last k xs s no-clash free-there (2 ^ numberIn xs) refl 0 (omega (arith, missing-less)) (hold xs s .bytes) refl (completed k (hold xs s)) refl refl

@@ -1,145 +1,144 @@
 -- The log of the segments that the writer gives, printed: the answers count down, then the listing stands there again. Assumes nothing.
 use mathlib.Core.Path.{_≡_, refl, sym, ap, ap₂, _∙_, subst}
-use mathlib.Core.Bool.{true}
+use mathlib.Core.Bool.{true, false, cond}
 use mathlib.Core.List.{List, [], _∷_, _++_, map, flatMap, append-assoc, nil≢cons, head-eq-of-cons-eq, tail-eq-of-cons-eq}
-use Prim.Native.Nat.{ℕ, zero, suc, _+_, _*_, _/_, _%_, _≤_, _<_}
+use Prim.Native.Nat.{ℕ, zero, suc, _+_, _-_, _≤_}
 use native.Mathlib.Omega.{arith}
-use borrow.Author.Tests.{ltb-true, ltb-false, ne-eqb, lt-ltb, le-ltb, le-leb, lt-leb}
-use lib.Dec.{ltb}
-use lib.ListN.{length, drop, length-append}
+use borrow.Author.Tests.{ne-eqb, le-ltb}
+use lib.Dec.{eqb, eqb·suc-zero}
+use lib.ListN.{length, take, drop, length-append}
 use lib.Seq.{take-at, drop-at}
 use Rattle.octets.specs.Bits.{Bytes}
 use Rattle.octets.specs.Each.{Each}
-use Rattle.octets.proofs.Laws.{either}
+use Rattle.octets.specs.Checks.{among}
+use Rattle.text.specs.Text.{text, decimalIn, decimal}
+use Rattle.records.specs.declared.Entry.the-variants.{End, Whole}
+use Rattle.records.specs.Records.{markBytes, markIn, markOf, entryIn, isWhole, sizeOf, Record, recordIn, File, fileIn, lastLine}
+use Rattle.records.proofs.Entries.{shape-entry}
+use Rattle.records.proofs.Transcripts.{file-record, file-none}
 use Rattle.meaning.specs.declared.Kind.{Kind}
-use Rattle.meaning.specs.Sizes.{longestChunk, longestListing, markBytes}
+use Rattle.meaning.specs.Sizes.{longestChunk, longestListing}
 use Rattle.meaning.specs.Lists.{FicList}
 use Rattle.meaning.specs.Listing.{listing}
-use Rattle.meaning.specs.Listed.{listingFits, listSaid}
+use Rattle.meaning.specs.Said.{listingFits, listSaid}
 use Rattle.meaning.specs.Plain.{Fits, plainLength}
-use Rattle.meaning.proofs.Listed.{listing-said, said-fitting}
+use Rattle.meaning.proofs.Said.{listing-said, said-fitting}
 use Rattle.segments.specs.Segment.{segmentBytes, segmentKind}
-use Rattle.segments.specs.Cut.{segmentsFor}
+use Rattle.segments.specs.Cut.{segmentCount, upFrom}
 use Rattle.slots.specs.declared.Answer.{Answer}
-use Rattle.slots.specs.declared.Answer.the-variants.{Missing, Listed}
-use Rattle.writer.specs.Writing.{segmentsOf}
-use Rattle.writer.proofs.Outputs.{segmentsOf-whole}
-use Rattle.typed.specs.Typed.{digitOf, hexFits, hexSaid, logOf, markSG}
+use Rattle.slots.specs.declared.Answer.the-variants.{Missing, NewList}
+use Rattle.writer.specs.Writing.{plainSegments}
+use Rattle.writer.proofs.Outputs.{plainSegments-whole}
+use Rattle.typed.specs.Typed.{logOf}
 use Rattle.desk.specs.declared.Desk.{Desk}
-use Rattle.desk.specs.Desks.{After, segmentAfter, shown}
-use Rattle.desk.proofs.Frames.{listed-shown}
-use Rattle.lines.specs.declared.Entry.the-variants.{Segment}
-use Rattle.lines.specs.Text.{glyph, hex, answerLines, numbered, textEnd}
-use Rattle.lines.specs.Log.{state, entryIn, wholeRecord, recordBytes, segmentIn, next, linesFor, lastLine, printed}
-use Rattle.lines.proofs.Log.{printed-record, printed-last}
-use Rattle.gatherings.specs.Deliveries.{AtStart, Told, deliveredBy, delivered, wholly, countdown}
-use Rattle.gatherings.proofs.Memory.{delivered-whole}
+use Rattle.desk.specs.Desks.{segmentAfter}
+use Rattle.desk.specs.Calls.{Call, State, state, wholly, shownIn, leftBy, ranBy, ran, answersOf}
+use Rattle.effects.proofs.Frames.{listed-shown}
+use Rattle.lines.specs.Lines.{answerLines}
+use Rattle.replay.specs.Log.{logForm, callOf, linesOf, printed}
+use Rattle.gatherings.specs.Deliveries.{AtStart}
+use Rattle.gatherings.specs.Once.{different, pieceAnswer, pieceAnswers}
 use Rattle.gatherings.proofs.Rounds.{segments-delivered}
 
--- ---- one record
+-- ---- the records of such a log
+
+abbrev recordOf : List ℕ → Record
+recordOf xs = record { mark = markOf "SG"; content = xs }
 
 module _ (xs rest : List ℕ) (whole : length xs ≡ segmentBytes) where
   abbrev log : List ℕ
-  log = markSG ++ xs ++ rest
+  log = text "SG" ++ xs ++ rest
 
-  entry-logged : entryIn log ≡ Segment
-  unfolding entryIn
+  size-logged : length log ≡ markBytes + (segmentBytes + length rest)
+  size-logged = omega (arith, length-append xs rest)
+
+  mark-logged : markIn log ≡ markOf "SG"
+  unfolding markIn
+  mark-logged = let two : markBytes ≤ length log = omega (arith, size-logged) in simp (le-ltb _ _ two)
+
+  entry-logged : entryIn logForm log ≡ Whole (markBytes + segmentBytes)
   entry-logged =
-      let size : length log ≡ markBytes + (segmentBytes + length rest) = omega (arith, length-append xs rest) in
-      let some : length log ≡ 0 → ⊥ = λ z. omega arith in
-      let room : markBytes + segmentBytes ≤ length log = omega arith in
-      let two : markBytes ≤ length log = omega arith in
-      simp (ne-eqb _ _ some, le-ltb _ _ two, le-ltb _ _ room)
+      shape-entry logForm log (Whole (markBytes + segmentBytes)) (segmentBytes, ap logForm mark-logged, refl, omega (arith, size-logged))
 
-  segment-logged : segmentIn log ≡ xs
-  segment-logged = take-at xs rest segmentBytes whole
+  record-logged : recordIn (markBytes + segmentBytes) log ≡ recordOf xs
+  record-logged = λ i. record { mark = mark-logged i; content = take-at xs rest segmentBytes whole i }
 
   rest-logged : drop (markBytes + segmentBytes) log ≡ rest
-  rest-logged = drop-at (markSG ++ xs) rest (markBytes + segmentBytes) (omega arith)
+  rest-logged = drop-at (text "SG" ++ xs) rest (markBytes + segmentBytes) (omega arith)
 
-  record-printed : (d : Desk) (first second : List ℕ) → let r = segmentAfter d xs first second in printed (state d first second) log ≡ answerLines (r .answer) (shown (segmentKind xs) (r .desk) (r .first) (r .second)) ++ printed (state (r .desk) (r .first) (r .second)) rest
-  unfolding linesFor next
-  record-printed d first second =
-      printed-record (state d first second) log (ap wholeRecord entry-logged)
-      ∙ (λ i. linesFor (entry-logged i) (state d first second) log ++ printed (next (entry-logged i) (state d first second) log) (drop (recordBytes (entry-logged i)) log))
-      ∙ (λ i. let r = segmentAfter d (segment-logged i) first second in answerLines (r .answer) (shown (segmentKind (segment-logged i)) (r .desk) (r .first) (r .second)) ++ printed (state (r .desk) (r .first) (r .second)) (rest-logged i))
+  file-logged : let f = fileIn logForm rest in fileIn logForm log ≡ record { records = recordOf xs ∷ f .records; end = f .end }
+  file-logged =
+      let e = entry-logged in
+      file-record logForm log (ap isWhole e)
+      ∙ (λ i. let f = fileIn logForm (drop (sizeOf (e i)) log) in record { records = recordIn (sizeOf (e i)) log ∷ f .records; end = f .end })
+      ∙ (λ i. let f = fileIn logForm (rest-logged i) in record { records = record-logged i ∷ f .records; end = f .end })
 
-end-printed : (d : Desk) (first second : List ℕ) → printed (state d first second) [] ≡ textEnd ++ numbered 0
-unfolding entryIn lastLine
-end-printed d first second = printed-last (state d first second) [] refl
+log-records : (segments : List (List ℕ)) → Each (λ s. length s ≡ segmentBytes) segments → fileIn logForm (logOf segments) ≡ record { records = map recordOf segments; end = End }
+unfolding flatMap entryIn
+log-records [] h = file-none logForm [] refl
+log-records (s ∷ more) h =
+    ap (fileIn logForm) (append-assoc (text "SG") s (logOf more))
+    ∙ file-logged s (logOf more) (h .0)
+    ∙ ap (λ (f : File). record { records = recordOf s ∷ f .records; end = f .end }) (log-records more (h .1))
 
--- ---- one record after the other
+calls-same : (s : State) (segments : List (List ℕ)) → map (callOf s) (map recordOf segments) ≡ map (wholly s) segments
+calls-same s [] = refl
+calls-same s (x ∷ more) = ap (λ (cs : List Call). wholly s x ∷ cs) (calls-same s more)
 
--- segments whose answers count down to the listing xs, which is then shown
-module _ (k : Kind) (xs : List ℕ) where
+-- ---- segments whose answers are those of n pieces in order, the listing xs being shown then
+
+module _ (k : Kind) (xs : List ℕ) (n : ℕ) where
+  abbrev answers : List ℕ → ℕ → ℕ → List Answer
+  answers came i j = pieceAnswers n k (length xs) came (upFrom i j)
+
   abbrev lines : List Answer → List ℕ
-  lines answers = flatMap (λ a. answerLines a xs) answers
+  lines told = flatMap (λ a. answerLines a xs) told
 
-  told-printed : (n : ℕ) (segments : List (List ℕ)) (d : Desk) (first second : List ℕ) → Each (λ s. length s ≡ segmentBytes) segments → let t = delivered d (map (wholly first second) segments) first second in t .answers ≡ countdown k (length xs) n → shown k (t .desk) (t .first) (t .second) ≡ xs → printed (state d first second) (logOf segments) ≡ lines (countdown k (length xs) n) ++ (textEnd ++ numbered 0)
-  unfolding deliveredBy countdown flatMap answerLines
-  told-printed zero [] d first second h e shows = end-printed d first second
-  told-printed zero (s ∷ more) d first second h e shows = absurd (nil≢cons (sym e))
-  told-printed (suc zero) [] d first second h e shows = absurd (nil≢cons e)
-  told-printed (suc zero) (s ∷ u ∷ more) d first second h e shows = absurd (nil≢cons (sym (tail-eq-of-cons-eq e)))
-  told-printed (suc zero) (s ∷ []) d first second h e shows =
-      let r : After = segmentAfter d s first second in
-      let w = sym (delivered-whole d s [] first second) in
-      let list : r .answer ≡ Listed k (length xs) = head-eq-of-cons-eq (ap (λ (t : Told). t .answers) w ∙ e) in
-      let there : shown k (r .desk) (r .first) (r .second) ≡ xs = ap (λ (t : Told). shown k (t .desk) (t .first) (t .second)) w ∙ shows in
-      let kind : segmentKind s ≡ k = sym (listed-shown d s first second k (length xs) list .0) in
-      record-printed s [] (h .0) d first second
-      ∙ ap₂ _++_ (ap₂ answerLines list (ap (λ (j : Kind). shown j (r .desk) (r .first) (r .second)) kind ∙ there)) (end-printed (r .desk) (r .first) (r .second))
-      ∙ sym (append-assoc (answerLines (Listed k (length xs)) xs) [] (textEnd ++ numbered 0))
-  told-printed (suc (suc n)) [] d first second h e shows = absurd (nil≢cons e)
-  told-printed (suc (suc n)) (s ∷ more) d first second h e shows =
-      let r : After = segmentAfter d s first second in
-      let w = sym (delivered-whole d s more first second) in
-      let told = ap (λ (t : Told). t .answers) w ∙ e in
-      record-printed s (logOf more) (h .0) d first second
-      ∙ ap₂ _++_ (ap (λ (a : Answer). answerLines a (shown (segmentKind s) (r .desk) (r .first) (r .second))) (head-eq-of-cons-eq told))
-      (told-printed (suc n) more (r .desk) (r .first) (r .second) (h .1) (tail-eq-of-cons-eq told) (ap (λ (t : Told). shown k (t .desk) (t .first) (t .second)) w ∙ shows))
-      ∙ sym (append-assoc (answerLines (Missing (suc n)) xs) (lines (countdown k (length xs) (suc n))) (textEnd ++ numbered 0))
+  -- j + 1 pieces are missing before the piece i
+  answer-next : (j i : ℕ) (came : List ℕ) → i + suc j ≡ n → different came ≡ i → among came i ≡ false → pieceAnswer n k (length xs) came i ≡ cond (eqb j 0) (NewList k (length xs)) (Missing j)
+  answer-next j i came e count free =
+      let missing : n - suc i ≡ j = omega arith in
+      simp (free, count, missing)
+
+  module _ (s : State) where
+    told-lines : (j i : ℕ) (came : List ℕ) → i + j ≡ n → different came ≡ i → ((p : ℕ) → i ≤ p → among came p ≡ false) → (t : State) (segments : List (List ℕ)) → let r = ran t (map (wholly s) segments) in answersOf (r .told) ≡ answers came i j → shownIn k (r .left) ≡ xs → flatMap linesOf (r .told) ≡ lines (answers came i j)
+    unfolding ranBy flatMap upFrom answerLines
+    told-lines zero i came e count above t [] is shows = refl
+    told-lines zero i came e count above t (x ∷ more) is shows = absurd (nil≢cons (sym is))
+    told-lines (suc j) i came e count above t [] is shows = absurd (nil≢cons is)
+    told-lines (suc zero) i came e count above t (x ∷ y ∷ more) is shows = absurd (nil≢cons (sym (tail-eq-of-cons-eq is)))
+    told-lines (suc zero) i came e count above t (x ∷ []) is shows =
+        let list = head-eq-of-cons-eq is ∙ answer-next zero i came e count (above i (omega arith)) in
+        let kind : segmentKind x ≡ k = sym (listed-shown (t .desk) x (take (length (s .first)) (t .first)) (take (length (s .second)) (t .second)) k (length xs) list .0) in
+        let there : shownIn (segmentKind x) (leftBy segmentAfter t (wholly s x)) ≡ xs = ap (λ (j : Kind). shownIn j (leftBy segmentAfter t (wholly s x))) kind ∙ shows in
+        ap₂ _++_ (ap₂ answerLines (head-eq-of-cons-eq is) there) refl
+    told-lines (suc (suc j)) i came e count above t (x ∷ more) is shows =
+        let free = above i (omega arith) in
+        let head = head-eq-of-cons-eq is in
+        let few : pieceAnswer n k (length xs) came i ≡ Missing (suc j) = simp (eqb·suc-zero j) at (answer-next (suc j) i came e count free) in
+        let after : State = leftBy segmentAfter t (wholly s x) in
+        let told = ap (λ (a : Answer). answerLines a (shownIn (segmentKind x) after)) (head ∙ few) in
+        ap₂ _++_ (told ∙ sym (ap (λ (a : Answer). answerLines a xs) few))
+        (told-lines (suc j) (suc i) (i ∷ came) (omega arith) (simp (free, count))
+        (λ p low. let apart : p ≡ i → ⊥ = λ q. omega arith in simp (ne-eqb p i apart, above p (omega arith)))
+        after more (tail-eq-of-cons-eq is) shows)
+
+    order-printed : (segments : List (List ℕ)) → Each (λ x. length x ≡ segmentBytes) segments → let r = ran s (map (wholly s) segments) in answersOf (r .told) ≡ pieceAnswers n k (length xs) [] (upFrom 0 n) → shownIn k (r .left) ≡ xs → printed s (logOf segments) ≡ flatMap (λ a. answerLines a xs) (pieceAnswers n k (length xs) [] (upFrom 0 n)) ++ text "END 0\n"
+    unfolding printed lastLine decimal decimalIn
+    order-printed segments h is shows =
+        ap (λ (f : File). flatMap linesOf (ran s (map (callOf s) (f .records)) .told) ++ lastLine (f .end)) (log-records segments h)
+        ∙ ap (λ (cs : List Call). flatMap linesOf (ran s cs .told) ++ text "END 0\n") (calls-same s segments)
+        ∙ ap (λ (l : List ℕ). l ++ text "END 0\n") (told-lines n 0 [] (omega arith) refl (λ p low. refl) s segments is shows)
 
 module _ (k : Kind) (l : FicList) (fits : Fits l) (room : plainLength l ≤ longestChunk) where
-  log-printed : (d : Desk) → AtStart d → (first second : List ℕ) → longestListing ≤ length first → longestListing ≤ length second → printed (state d first second) (logOf (segmentsOf k l)) ≡ flatMap (λ a. answerLines a (listing l)) (countdown k (length (listing l)) (segmentsFor (plainLength l))) ++ (textEnd ++ numbered 0)
+  log-printed : (d : Desk) → AtStart d → (first second : List ℕ) → longestListing ≤ length first → longestListing ≤ length second → let n = segmentCount (plainLength l) in printed (state d first second) (logOf (plainSegments k l)) ≡ flatMap (λ a. answerLines a (listing l)) (pieceAnswers n k (length (listing l)) [] (upFrom 0 n)) ++ text "END 0\n"
   log-printed d start first second one other =
       let c = segments-delivered k l fits room d start first second one other in
-      told-printed k (listing l) (segmentsFor (plainLength l)) (segmentsOf k l) d first second (segmentsOf-whole k l fits room) (c .answers) (c .shows)
+      order-printed k (listing l) (segmentCount (plainLength l)) (state d first second) (plainSegments k l) (plainSegments-whole k l fits room) (c .list .answers) (c .list .shows)
 
-pub written-printed : (xs : List ℕ) (k : Kind) → Bytes xs → listingFits xs ≡ true → plainLength (listSaid xs) ≤ longestChunk → (d : Desk) → AtStart d → (first second : List ℕ) → longestListing ≤ length first → longestListing ≤ length second → printed (state d first second) (logOf (segmentsOf k (listSaid xs))) ≡ flatMap (λ a. answerLines a xs) (countdown k (length xs) (segmentsFor (plainLength (listSaid xs)))) ++ (textEnd ++ numbered 0)
+pub written-printed : (xs : List ℕ) (k : Kind) → Bytes xs → listingFits xs ≡ true → plainLength (listSaid xs) ≤ longestChunk → (d : Desk) → AtStart d → (first second : List ℕ) → longestListing ≤ length first → longestListing ≤ length second → let n = segmentCount (plainLength (listSaid xs)) in printed (state d first second) (logOf (plainSegments k (listSaid xs))) ≡ flatMap (λ a. answerLines a xs) (pieceAnswers n k (length xs) [] (upFrom 0 n)) ++ text "END 0\n"
 written-printed xs k bytes fits room d start first second one other =
     let l : FicList = listSaid xs in
-    subst (λ (ys : List ℕ). printed (state d first second) (logOf (segmentsOf k l)) ≡ flatMap (λ a. answerLines a ys) (countdown k (length ys) (segmentsFor (plainLength l))) ++ (textEnd ++ numbered 0)) (listing-said xs bytes fits)
+    let n : ℕ = segmentCount (plainLength l) in
+    subst (λ (ys : List ℕ). printed (state d first second) (logOf (plainSegments k l)) ≡ flatMap (λ a. answerLines a ys) (pieceAnswers n k (length ys) [] (upFrom 0 n)) ++ text "END 0\n") (listing-said xs bytes fits)
     (log-printed k l (said-fitting xs bytes fits) room d start first second one other)
-
--- ---- what the log prints in hex can be typed
-
-digit-glyph : (n : ℕ) → n < 16 → digitOf (glyph n) ≡ n
-digit-glyph n h =
-    either (ltb n 10)
-    (λ t.
-    let small = ltb-true n 10 t in
-    let low : 0x30 ≤ 48 + n = omega arith in
-    let high : 48 + n ≤ 0x39 = omega arith in
-    simp (t, le-leb _ _ low, le-leb _ _ high) (omega arith))
-    (λ t.
-    let large = ltb-false n 10 t in
-    let past : 0x39 < 87 + n = omega arith in
-    let above : 0x46 < 87 + n = omega arith in
-    let low : 0x61 ≤ 87 + n = omega arith in
-    let high : 87 + n ≤ 0x66 = omega arith in
-    let one : 0x30 ≤ 87 + n = omega arith in
-    let two : 0x41 ≤ 87 + n = omega arith in
-    simp (t, le-leb _ _ one, lt-leb _ _ past, le-leb _ _ two, lt-leb _ _ above, le-leb _ _ low, le-leb _ _ high) (omega arith))
-
-pub hex-typed : (xs : List ℕ) → Bytes xs → (hexFits (length xs) (hex xs) ≡ true) × (hexSaid (length xs) (hex xs) ≡ xs)
-unfolding hex flatMap hexFits hexSaid
-hex-typed [] b = (refl, refl)
-hex-typed (x ∷ xs) b =
-    let first = digit-glyph (x / 16) (omega arith) in
-    let second = digit-glyph (x % 16) (omega arith) in
-    let one : x / 16 < 16 = omega arith in
-    let two : x % 16 < 16 = omega arith in
-    let more = hex-typed xs (b .1) in
-    let byte : x / 16 * 16 + x % 16 ≡ x = omega arith in
-    (simp (first, second, lt-ltb _ _ one, lt-ltb _ _ two) (more .0), ap₂ _∷_ (ap₂ (λ (a c : ℕ). a * 16 + c) first second ∙ byte) (more .1))

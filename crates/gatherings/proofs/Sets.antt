@@ -9,8 +9,8 @@ use lib.Dec.{eqb}
 use lib.Count.{ones, ones-le}
 use lib.Pow.{pow-pos}
 use Rattle.octets.specs.Each.{Each}
+use Rattle.octets.specs.Checks.{among}
 use Rattle.octets.proofs.Laws.{either}
-use Rattle.meaning.specs.Numbers.{among}
 use Rattle.slots.specs.Slots.{holds, including}
 use Rattle.slots.proofs.Bits.{holds-none, holds-including, holds-other, ones-including, including-small, complete-full, full-complete}
 use Rattle.gatherings.specs.Once.{different}

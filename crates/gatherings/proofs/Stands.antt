@@ -10,10 +10,10 @@ use lib.ListN.{length, take, drop, length-take}
 use lib.Seq.{take-at}
 use lib.Count.{ones}
 use Rattle.octets.specs.Each.{Each}
+use Rattle.octets.specs.Checks.{among}
 use Rattle.octets.proofs.Laws.{either}
 use Rattle.meaning.specs.declared.Kind.{Kind}
 use Rattle.meaning.specs.Sizes.{longestListing}
-use Rattle.meaning.specs.Numbers.{among}
 use Rattle.meaning.specs.Lists.{FicList}
 use Rattle.meaning.specs.Listing.{listing}
 use Rattle.meaning.specs.Reading.{Accepts}
@@ -22,11 +22,13 @@ use Rattle.slots.specs.declared.Slot.{Slot}
 use Rattle.slots.specs.declared.Answer.the-variants.{Missing}
 use Rattle.slots.specs.Slots.{holds, including}
 use Rattle.slots.proofs.Bits.{ones-including}
+use Rattle.notes.specs.Notes.{slotFor, lengthFor, lentFor}
 use Rattle.desk.specs.declared.Desk.{Desk}
-use Rattle.desk.specs.Desks.{slotFor, lengthFor, lentFor, After, shownLength, shown}
-use Rattle.desk.specs.Effects.{Kept}
-use Rattle.desk.proofs.Keeps.{segment-fits}
-use Rattle.gatherings.specs.Deliveries.{AtStart, Call}
+use Rattle.desk.specs.Desks.{After, shownLength, shown}
+use Rattle.desk.specs.Calls.{Lending}
+use Rattle.effects.specs.Effects.{Kept}
+use Rattle.effects.proofs.Keeps.{segment-fits}
+use Rattle.gatherings.specs.Deliveries.{AtStart}
 use Rattle.gatherings.specs.Once.{different, pieceAnswer}
 use Rattle.gatherings.proofs.Sets.{setOf, holds-setOf, ones-setOf, different-fewer}
 use Rattle.gatherings.proofs.Memory.{Lent, wide, called, wide-unchanged, called-lent, called-left}
@@ -36,13 +38,13 @@ use Rattle.gatherings.proofs.Gathers.{Gathers, start-empty, start-gathe
 -- the places `held` of n of the chunk `whole` came, its listing is xs, and its kind's memory was `before`; swapped tells the buffers' roles
 pub record Stands (n : ℕ) (whole : List ℕ) (k : Kind) (xs : List ℕ) (swapped : Bool) (before : List ℕ) (held : ℕ) (d : Desk) (first second : List ℕ) : Type 0 where
   pub gathers : Gathers n whole k d
-  pub places : slotFor k (d .marks) .held ≡ held
+  pub places : slotFor k (d .notes) .held ≡ held
   pub lent : Lent swapped d first second
   -- some are missing, or all came
   pub some : ones held < n → lentFor k swapped first second ≡ before
-  pub all : ones held ≡ n → (lengthFor k (d .marks) ≡ length xs) × (lentFor k swapped first second ≡ xs ++ drop (length xs) before)
+  pub all : ones held ≡ n → (lengthFor k (d .notes) ≡ length xs) × (lentFor k swapped first second ≡ xs ++ drop (length xs) before)
 
-pub start-stands : (n : ℕ) (whole : List ℕ) (k : Kind) (xs : List ℕ) → 0 < n → (d : Desk) → AtStart d → (first second : List ℕ) → longestListing ≤ length first → longestListing ≤ length second → Stands n whole k xs (d .marks .swapped) (lentFor k (d .marks .swapped) first second) 0 d first second
+pub start-stands : (n : ℕ) (whole : List ℕ) (k : Kind) (xs : List ℕ) → 0 < n → (d : Desk) → AtStart d → (first second : List ℕ) → longestListing ≤ length first → longestListing ≤ length second → Stands n whole k xs (d .notes .swapped) (lentFor k (d .notes .swapped) first second) 0 d first second
 unfolding ones
 start-stands n whole k xs more d start first second left right =
     record {
@@ -62,7 +64,7 @@ module _ {n : ℕ} {whole : List ℕ} {k : Kind} {xs : List ℕ} {swapped : Bool
       (take-at xs (drop (length xs) before) (length xs) refl)
 
   -- a call that leaves the kind alone
-  pub kept-stands : (c : Call) → let r = called d c first second in Kept (d .marks .swapped) k d first second r → Stands n whole k xs swapped before held (r .desk) (r .first) (r .second)
+  pub kept-stands : (c : Lending) → let r = called d c first second in Kept (d .notes .swapped) k d first second r → Stands n whole k xs swapped before held (r .desk) (r .first) (r .second)
   kept-stands c h =
       let r : After = called d c first second in
       let own : lentFor k swapped (r .first) (r .second) ≡ lentFor k swapped first second =
@@ -81,7 +83,7 @@ module _ {n : ℕ} {whole : List ℕ} {k : Kind} {xs : List ℕ} {swapped : Bool
 
 -- ---- the pieces `came`, and the piece i comes
 
-module _ {n : ℕ} {whole : List ℕ} {k : Kind} {m : ℕ} {l : FicList} {swapped : Bool} {before : List ℕ} (size : length whole ≡ payloadBytes * n) (accepts : Accepts whole k m l) (came : List ℕ) (inside : Each (λ j. j < n) came) {d : Desk} {first second : List ℕ} (s : Stands n whole k (listing l) swapped before (setOf came) d first second) (c : Call) (one : longestListing ≤ c .first) (two : longestListing ≤ c .second) (i : ℕ) (p : Piece n whole k i (c .segment)) where
+module _ {n : ℕ} {whole : List ℕ} {k : Kind} {m : ℕ} {l : FicList} {swapped : Bool} {before : List ℕ} (size : length whole ≡ payloadBytes * n) (accepts : Accepts whole k m l) (came : List ℕ) (inside : Each (λ j. j < n) came) {d : Desk} {first second : List ℕ} (s : Stands n whole k (listing l) swapped before (setOf came) d first second) (c : Lending) (one : longestListing ≤ c .first) (two : longestListing ≤ c .second) (i : ℕ) (p : Piece n whole k i (c .segment)) where
   abbrev xs : List ℕ
   xs = listing l
 
@@ -92,7 +94,7 @@ module _ {n : ℕ} {whole : List ℕ} {k : Kind} {m : ℕ} {l : FicList} {swappe
   right = take (c .second) second
 
   abbrev held : ℕ
-  held = slotFor k (d .marks) .held
+  held = slotFor k (d .notes) .held
 
   abbrev r : After
   r = called d c first second
@@ -121,7 +123,7 @@ module _ {n : ℕ} {whole : List ℕ} {k : Kind} {m : ℕ} {l : FicList} {swappe
 
   -- one of the missing
   module _ (q : among came i ≡ false) where
-    held-stands : Gathers n whole k (r .desk) → slotFor k (r .desk .marks) .held ≡ including held i → (suc (different came) < n → lentFor k swapped (r .first) (r .second) ≡ before) → (suc (different came) ≡ n → (lengthFor k (r .desk .marks) ≡ length xs) × (lentFor k swapped (r .first) (r .second) ≡ xs ++ drop (length xs) before)) → Stands n whole k xs swapped before (setOf (i ∷ came)) (r .desk) (r .first) (r .second)
+    held-stands : Gathers n whole k (r .desk) → slotFor k (r .desk .notes) .held ≡ including held i → (suc (different came) < n → lentFor k swapped (r .first) (r .second) ≡ before) → (suc (different came) ≡ n → (lengthFor k (r .desk .notes) ≡ length xs) × (lentFor k swapped (r .first) (r .second) ≡ xs ++ drop (length xs) before)) → Stands n whole k xs swapped before (setOf (i ∷ came)) (r .desk) (r .first) (r .second)
     held-stands g h some all =
         let sum : ones (including (setOf came) i) ≡ suc (different came) =
         ones-including (setOf came) i (holds-setOf came i ∙ q) ∙ ap suc (ones-setOf came) in
@@ -144,7 +146,7 @@ module _ {n : ℕ} {whole : List ℕ} {k : Kind} {m : ℕ} {l : FicList} {swappe
         let full : suc (different came) ≡ n = omega (arith, eqb-true (n - suc (different came)) 0 z) in
         let h = piece-last p d (s .gathers) left right left-long right-long free size accepts (ap suc count ∙ full) in
         let own =
-        subst (λ (t : Bool). lentFor k t (r .first) (r .second) ≡ xs ++ drop (length xs) (lentFor k t first second)) (s .lent .2) (called-left d c first second k (d .marks .swapped) xs (h .4))
+        subst (λ (t : Bool). lentFor k t (r .first) (r .second) ≡ xs ++ drop (length xs) (lentFor k t first second)) (s .lent .2) (called-left d c first second k (d .notes .swapped) xs (h .4))
         ∙ ap (λ (x : List ℕ). xs ++ drop (length xs) x) same in
         (simp (q, z) (h .0), held-stands (h .1) (h .2) (λ e. absurd (omega arith)) (λ e. (h .3, own))))
         (λ z.

@@ -5,7 +5,8 @@ use Prim.Native.Nat.{ℕ}
 use Rattle.octets.proofs.Laws.{either}
 use Rattle.desk.specs.declared.Desk.{Desk}
 use Rattle.desk.specs.Desks.{emptied, fresh, wellFormed, newGathering, newFrame}
-use Rattle.desk.proofs.Keeps.{fresh-fits, gathering-good, gathering-bad, gathering-fits, frame-good, frame-bad, frame-fits}
+use Rattle.desk.proofs.Laws.{gathering-good, gathering-bad, frame-good, frame-bad}
+use Rattle.effects.proofs.Keeps.{fresh-fits, gathering-fits, frame-fits}
 use Rattle.gatherings.specs.Deliveries.{AtStart}
 
 -- a well formed desk with empty slots
@@ -19,11 +20,11 @@ fresh-start = gathering-good fresh fresh-fits
 pub gathering-start : (d : Desk) → AtStart (newGathering d)
 gathering-start d =
     either (wellFormed d)
-    (λ w. emptied-start (newGathering d) (d .marks .shown) (d .marks .coming) (d .marks .swapped) (gathering-good d w) (gathering-fits d))
+    (λ w. emptied-start (newGathering d) (d .notes .shown) (d .notes .coming) (d .notes .swapped) (gathering-good d w) (gathering-fits d))
     (λ w. subst AtStart (sym (gathering-bad d w)) fresh-start)
 
 pub frame-start : (d : Desk) → AtStart (newFrame d)
 frame-start d =
     either (wellFormed d)
-    (λ w. emptied-start (newFrame d) (d .marks .coming) 0 (not (d .marks .swapped)) (frame-good d w) (frame-fits d))
+    (λ w. emptied-start (newFrame d) (d .notes .coming) 0 (not (d .notes .swapped)) (frame-good d w) (frame-fits d))
     (λ w. subst AtStart (sym (frame-bad d w)) fresh-start)

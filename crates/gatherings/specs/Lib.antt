@@ -1,2 +1,3 @@
 pub mod Deliveries
 pub mod Once
+pub mod KeepsFirst

@@ -9,12 +9,12 @@ ghost use Rattle.meaning.specs.Numbers.{readValues};
 ghost use Rattle.meaning.specs.Reading.{readAnswer, readBuffer};
 ghost use Rattle.segments.specs.Segment.{mostSegments};
 ghost use Rattle.writer.specs.Writing.{writtenValues, writeAnswer, writeOutput};
-ghost use Rattle.lukasembo.specs.Told.{readTold, writeTold};
+ghost use Rattle.lukasembo.specs.Packed.{packedRead, packedWritten};
 
 // The reader's answer as one number.
-fn read_told(answer: Read) -> u64
+fn pack_read(answer: Read) -> u64
     requires { ⌜ readValues answer .length ≤ longestListing ⌝ }
-    ensures { λ r. ⌜ r ≡ readTold answer ⌝ }
+    ensures { λ r. ⌜ r ≡ packedRead answer ⌝ }
 {
     match answer {
         Read::Listed {
@@ -30,31 +30,31 @@ fn read_told(answer: Read) -> u64
 }
 
 // The writer's answer as one number.
-fn write_told(answer: Written) -> u64
+fn pack_written(answer: Written) -> u64
     requires { ⌜ writtenValues answer .count ≤ mostSegments ⌝ }
-    ensures { λ r. ⌜ r ≡ writeTold answer ⌝ }
+    ensures { λ r. ⌜ r ≡ packedWritten answer ⌝ }
 {
     match answer {
         Written::Segments(count) => count as u64 * 0x10000,
-        Written::Refused(refusal) => meaning::number_of(refusal) as u64,
+        Written::Refused(refusal) => writer::unwritten_number(refusal) as u64,
     }
 }
 
 // Reads a chunk: its listing goes to the start of the buffer.
 #[no_mangle]
 pub extern "C" fn lukasembo_read(chunk: &[u8], buffer: &mut [u8]) -> u64
-    ensures { λ r. ⌜ (r ≡ readTold (readAnswer (now (chunk .entry)) (now (buffer .entry)))) × (now (buffer .exit) ≡ readBuffer (now (chunk .entry)) (now (buffer .entry))) ⌝ }
+    ensures { λ r. ⌜ (r ≡ packedRead (readAnswer (now (chunk .entry)) (now (buffer .entry)))) × (now (buffer .exit) ≡ readBuffer (now (chunk .entry)) (now (buffer .entry))) ⌝ }
 {
     let answer = reader::read(chunk, buffer);
-    read_told(answer)
+    pack_read(answer)
 }
 
 // Writes the segments of a listing for the kind with this current_next: they go to the start of the output.
 #[no_mangle]
 pub extern "C" fn lukasembo_write(listing: &[u8], current: u8, output: &mut [u8]) -> u64
-    ensures { λ r. ⌜ (r ≡ writeTold (writeAnswer (now (listing .entry)) (kindOf current) (now (output .entry)))) × (now (output .exit) ≡ writeOutput (now (listing .entry)) (kindOf current) (now (output .entry))) ⌝ }
+    ensures { λ r. ⌜ (r ≡ packedWritten (writeAnswer (now (listing .entry)) (kindOf current) (now (output .entry)))) × (now (output .exit) ≡ writeOutput (now (listing .entry)) (kindOf current) (now (output .entry))) ⌝ }
 {
     let kind = meaning::kind_of(current);
     let answer = writer::write(listing, kind, output);
-    write_told(answer)
+    pack_written(answer)
 }

@@ -1,34 +1,36 @@
 -- What the public call answers and leaves, case by case; and that its promise has one result only. Assumes nothing.
-use mathlib.Core.Path.{_≡_, refl, sym, ap, _∙_, subst}
-use mathlib.Core.Bool.{Bool, true, false, not, _||_}
+use mathlib.Core.Path.{_≡_, refl, sym, ap, _∙_}
+use mathlib.Core.Bool.{Bool, true, false}
 use mathlib.Core.List.{List, [], _∷_, _++_}
-use Prim.Native.Nat.{ℕ, zero, suc, _+_, _≤_, _<_}
+use Prim.Native.Nat.{ℕ, _≤_, _<_}
 use native.Mathlib.Omega.{arith}
 use borrow.Author.Tests.{lt-ltb, le-ltb, ltb-true, ltb-false}
-use lib.Dec.{T, ltb, eqb}
+use lib.Dec.{T, ltb}
 use lib.ListN.{length, drop}
 use Rattle.octets.specs.Bits.{Bytes}
+use Rattle.octets.specs.Checks.{check, among}
 use Rattle.meaning.specs.declared.Kind.{Kind}
 use Rattle.meaning.specs.declared.Refusal.{Refusal}
-use Rattle.meaning.specs.declared.Refusal.the-variants.{ShortBuffer, OtherMajor, TooLong, EndsEarly, OtherVersion}
+use Rattle.meaning.specs.declared.Refusal.the-variants.{ShortBuffer, OtherMajor}
 use Rattle.meaning.specs.declared.Checked.{Checked}
 use Rattle.meaning.specs.declared.Checked.the-variants.{Fine, Fault}
 use Rattle.meaning.specs.declared.Read.{Read}
 use Rattle.meaning.specs.declared.Read.the-variants.{Listed, Refused}
-use Rattle.meaning.specs.Sizes.{longestChunk, headerBytes, ensembleBytes, longestListing}
-use Rattle.meaning.specs.Numbers.{numberOf, readValues, among, readFault}
+use Rattle.meaning.specs.Sizes.{longestChunk, longestListing}
+use Rattle.meaning.specs.Numbers.{numberOf, readValues, readFault}
 use Rattle.meaning.specs.Lists.{FicList, currentOf}
 use Rattle.meaning.specs.Layout.{Carries}
 use Rattle.meaning.specs.Listing.{listing}
-use Rattle.meaning.specs.Reading.{check, checks, ensemblesChecks, majorIn, hIn, versionIn, servicesRoom, inside, past, eIn, sIn, countIn, payload, kindIn, minorIn, listIn, readChecks, readFor, readAnswer, leftBy, readBuffer, ReadSays}
+use Rattle.meaning.specs.Reading.{checks, majorIn, kindIn, minorIn, listIn, readChecks, readFor, readAnswer, bufferLeft, readBuffer, ReadSays}
 use Rattle.meaning.proofs.Checks.{checks-major}
+use Rattle.meaning.proofs.Gives.{Gives, gives-check, given, ensembles-give}
 use Rattle.meaning.proofs.Complete.{carried-accepted}
 use Rattle.meaning.proofs.Sound.{accepted-carried}
 
 -- an answer that is the right one leaves what the right one leaves
-says : (xs before : List ℕ) {answer : Read} → answer ≡ readAnswer xs before → ReadSays xs before answer (leftBy answer xs before)
+says : (xs before : List ℕ) {answer : Read} → answer ≡ readAnswer xs before → ReadSays xs before answer (bufferLeft answer xs before)
 unfolding readBuffer
-says xs before e = record { answers = e; leaves = ap (λ (r : Read). leftBy r xs before) e }
+says xs before e = record { answers = e; leaves = ap (λ (r : Read). bufferLeft r xs before) e }
 
 -- a refusal is answered exactly as the checks say
 pub answer-exactly : (xs before : List ℕ) → readFault (readAnswer xs before) ≡ readChecks xs before
@@ -78,7 +80,7 @@ listed-facts xs before {k} {m} {n} e =
     let both = go (ltb (length before) longestListing) (checks xs) e in
     (ltb-false _ _ (both .0), both .1)
   where
-    go : (t : Bool) (v : Checked) → readFor (check t ShortBuffer v) xs ≡ Listed k m n → (t ≡ false) × (v ≡ Fine)
+    go : (t : Bool) (v : Checked) → readFor (check t (Fault ShortBuffer) v) xs ≡ Listed k m n → (t ≡ false) × (v ≡ Fine)
     go true v p = let z : _≡_ {A = ℕ} 0 1 = cc in absurd (omega arith)
     go false Fine p = (refl, refl)
     go false (Fault f) p = let z : _≡_ {A = ℕ} 0 1 = cc in absurd (omega arith)
@@ -120,55 +122,18 @@ dress-disregarded {xs} {ys} h g before = go (ltb (length before) longestListing)
 
 -- ---- the numbers of the reader
 
--- the refusals that some checks can give are among some numbers
-abbrev pub Among : List ℕ → Checked → Type 0
-Among ns v = (f : Refusal) → v ≡ Fault f → T (among ns (numberOf f))
-
-pub among-fine : (ns : List ℕ) → Among ns Fine
-among-fine ns f e = let z : _≡_ {A = ℕ} 0 1 = cc in absurd (omega arith)
-
-pub among-check : (ns : List ℕ) (t : Bool) (f : Refusal) (v : Checked) → T (among ns (numberOf f)) → Among ns v → Among ns (check t f v)
-among-check ns true f v m a g e = let same : f ≡ g = cc in subst (λ (x : Refusal). T (among ns (numberOf x))) same m
-among-check ns false f v m a g e = a g e
-
-among-more : (m : ℕ) (ms : List ℕ) (n : ℕ) → T (among ms n) → T (among (m ∷ ms) n)
-among-more m ms n t = go (eqb n m)
-  where
-    go : (b : Bool) → T (b || among ms n)
-    go true = tt
-    go false = t
-
-abbrev chunkNumbers : List ℕ
-chunkNumbers = 5 ∷ 8 ∷ 9 ∷ 11 ∷ []
-
-ensembles-among : (e s n : ℕ) (ys : List ℕ) → Among chunkNumbers (ensemblesChecks e s n ys)
-unfolding ensemblesChecks
-ensembles-among e s zero ys = among-fine chunkNumbers
-ensembles-among e s (suc n) ys =
-    among-check chunkNumbers (ltb (length ys) (ensembleBytes + e)) EndsEarly _ tt
-    (among-check chunkNumbers (not (eqb (versionIn ys) 0)) OtherVersion _ tt
-    (among-check chunkNumbers (ltb (length (inside e ys)) (servicesRoom e s ys)) EndsEarly _ tt (ensembles-among e s n (past e s ys))))
-
-pub checks-among : (xs : List ℕ) (f : Refusal) → checks xs ≡ Fault f → T (among (5 ∷ 8 ∷ 9 ∷ 11 ∷ []) (numberOf f))
+read-gives : (xs before : List ℕ) → Gives (1 ∷ 5 ∷ 8 ∷ 9 ∷ 11 ∷ []) (readChecks xs before)
 unfolding checks
-checks-among xs =
-    among-check chunkNumbers (ltb longestChunk (length xs)) TooLong _ tt
-    (among-check chunkNumbers (ltb (length xs) 2) EndsEarly _ tt
-    (among-check chunkNumbers (not (eqb (majorIn xs) 0)) OtherMajor _ tt
-    (among-check chunkNumbers (ltb (length xs) (headerBytes + hIn xs)) EndsEarly _ tt (ensembles-among (eIn xs) (sIn xs) (countIn xs) (payload xs)))))
+read-gives xs before = search (gives-check, ensembles-give) depth 8
 
 -- a refusal is one of five numbers, with every other value 0, and writes nothing
 pub refusal-values : (xs before : List ℕ) {f : Refusal} → readChecks xs before ≡ Fault f → T (among (1 ∷ 5 ∷ 8 ∷ 9 ∷ 11 ∷ []) (numberOf f)) × (readValues (readAnswer xs before) ≡ record { number = numberOf f; kind = 0; minor = 0; length = 0 }) × (readBuffer xs before ≡ before)
 unfolding readAnswer readBuffer
-refusal-values xs before {f} e = (
-  go (ltb (length before) longestListing) e,
+refusal-values xs before e = (
+  given _ e (read-gives xs before),
   ap (λ (v : Checked). readValues (readFor v xs)) e,
-  ap (λ (v : Checked). leftBy (readFor v xs) xs before) e,
+  ap (λ (v : Checked). bufferLeft (readFor v xs) xs before) e,
 )
-  where
-    go : (t : Bool) → check t ShortBuffer (checks xs) ≡ Fault f → T (among (1 ∷ chunkNumbers) (numberOf f))
-    go true p = let same : ShortBuffer ≡ f = cc in subst (λ (x : Refusal). T (among (1 ∷ chunkNumbers) (numberOf x))) same tt
-    go false p = among-more 1 chunkNumbers (numberOf f) (checks-among xs f p)
 
 -- and a chunk that carries a list has number 0 and the values of its list
 pub carried-values : {xs : List ℕ} {k : Kind} {m : ℕ} {l : FicList} → Carries xs k m l → (before : List ℕ) → longestListing ≤ length before → (readValues (readAnswer xs before) ≡ record { number = 0; kind = currentOf k; minor = m; length = length (listing l) }) × (readBuffer xs before ≡ listing l ++ drop (length (listing l)) before)

@@ -1,25 +1,26 @@
 -- What it is to pass the checks, in facts about numbers: there and back. Assumes nothing.
-use mathlib.Core.Path.{_≡_, refl, _∙_}
-use mathlib.Core.Bool.{Bool, true, false}
+use mathlib.Core.Path.{_≡_, _∙_}
+use mathlib.Core.Bool.{Bool, false}
 use mathlib.Core.List.{List}
 use Prim.Native.Nat.{ℕ, suc, _+_, _≤_, _<_}
 use native.Mathlib.Omega.{arith}
 use borrow.Author.Tests.{ltb-false, lt-ltb, le-ltb, eq-eqb, ne-eqb, eqb-true, not-false}
 use lib.Dec.{ltb}
 use lib.ListN.{length}
+use Rattle.octets.specs.Checks.{check}
+use Rattle.octets.proofs.Laws.{check-follows}
 use Rattle.meaning.specs.declared.Refusal.{Refusal}
 use Rattle.meaning.specs.declared.Refusal.the-variants.{OtherMajor, TooLong, EndsEarly, OtherVersion}
 use Rattle.meaning.specs.declared.Checked.{Checked}
 use Rattle.meaning.specs.declared.Checked.the-variants.{Fine, Fault}
-use Rattle.meaning.specs.Sizes.{longestChunk, headerBytes, ensembleBytes}
-use Rattle.meaning.specs.Reading.{check, checks, ensemblesChecks, majorIn, hIn, eIn, sIn, countIn, versionIn, servicesRoom, payload, inside, past}
+use Rattle.meaning.specs.Sizes.{longestChunk, chunkHeaderBytes, ensembleBytes}
+use Rattle.meaning.specs.Reading.{checks, ensemblesChecks, majorIn, hIn, eIn, sIn, countIn, versionIn, servicesRoom, afterHeader, inside, past}
 
 fault≢fine : {f : Refusal} → Fault f ≡ Fine → ⊥
 fault≢fine p = let z : _≡_ {A = ℕ} 0 1 = cc in omega arith
 
-pub check-passed : (b : Bool) (f : Refusal) (r : Checked) → check b f r ≡ Fine → (b ≡ false) × (r ≡ Fine)
-check-passed true f r p = absurd (fault≢fine p)
-check-passed false f r p = (refl, p)
+pub check-passed : (b : Bool) (f : Refusal) (r : Checked) → check b (Fault f) r ≡ Fine → (b ≡ false) × (r ≡ Fine)
+check-passed b f r = check-follows b fault≢fine
 
 -- the facts that an ensemble at the start of ys passes by
 pub record EnsemblePasses (e s : ℕ) (ys : List ℕ) : Type 0 where
@@ -49,9 +50,9 @@ ensemble-fine e s n ys h p = simp (le-ltb _ _ (h .fields), eq-eqb _ _ (h .versio
 pub record HeaderPasses (xs : List ℕ) : Type 0 where
   pub longest : length xs ≤ longestChunk
   pub major : majorIn xs ≡ 0
-  pub fields : headerBytes + hIn xs ≤ length xs
+  pub fields : chunkHeaderBytes + hIn xs ≤ length xs
 
-pub header-passes : (xs : List ℕ) → checks xs ≡ Fine → HeaderPasses xs × (ensemblesChecks (eIn xs) (sIn xs) (countIn xs) (payload xs) ≡ Fine)
+pub header-passes : (xs : List ℕ) → checks xs ≡ Fine → HeaderPasses xs × (ensemblesChecks (eIn xs) (sIn xs) (countIn xs) (afterHeader xs) ≡ Fine)
 unfolding checks
 header-passes xs p =
     let a = check-passed _ TooLong _ p in
@@ -83,15 +84,15 @@ module _ (xs : List ℕ) where
   unfolding checks
   checks-major l t m = simp (le-ltb _ _ l, le-ltb _ _ t, ne-eqb _ _ m)
 
-  pub checks-cut : length xs ≤ longestChunk → 2 ≤ length xs → majorIn xs ≡ 0 → length xs < headerBytes + hIn xs → checks xs ≡ Fault EndsEarly
+  pub checks-cut : length xs ≤ longestChunk → 2 ≤ length xs → majorIn xs ≡ 0 → length xs < chunkHeaderBytes + hIn xs → checks xs ≡ Fault EndsEarly
   unfolding checks
   checks-cut l t m h = simp (le-ltb _ _ l, le-ltb _ _ t, eq-eqb _ _ m, lt-ltb _ _ h)
 
-  pub checks-header : HeaderPasses xs → checks xs ≡ ensemblesChecks (eIn xs) (sIn xs) (countIn xs) (payload xs)
+  pub checks-header : HeaderPasses xs → checks xs ≡ ensemblesChecks (eIn xs) (sIn xs) (countIn xs) (afterHeader xs)
   unfolding checks
   checks-header h =
       let two : 2 ≤ length xs = omega (arith, h .fields) in
       simp (le-ltb _ _ (h .longest), le-ltb _ _ two, eq-eqb _ _ (h .major), le-ltb _ _ (h .fields))
 
-  pub header-fine : HeaderPasses xs → ensemblesChecks (eIn xs) (sIn xs) (countIn xs) (payload xs) ≡ Fine → checks xs ≡ Fine
+  pub header-fine : HeaderPasses xs → ensemblesChecks (eIn xs) (sIn xs) (countIn xs) (afterHeader xs) ≡ Fine → checks xs ≡ Fine
   header-fine h p = checks-header h ∙ p

@@ -11,10 +11,10 @@ use Rattle.octets.specs.Word.{wordBytes}
 use Rattle.octets.proofs.Laws.{each-left, each-right, word-high-low}
 use Rattle.meaning.specs.declared.Kind.{Kind}
 use Rattle.meaning.specs.declared.Checked.the-variants.{Fine}
-use Rattle.meaning.specs.Sizes.{headerBytes, ensembleBytes, serviceBytes}
+use Rattle.meaning.specs.Sizes.{chunkHeaderBytes, ensembleBytes, serviceBytes}
 use Rattle.meaning.specs.Lists.{FicList, kindOf}
 use Rattle.meaning.specs.Layout.{ServiceRow, serviceFields, EnsembleRow, ensembleFields, Chunk, chunkFields, Allowed, serviceOf, ensembleOf, listOf, Carries}
-use Rattle.meaning.specs.Reading.{serviceAt, servicesAt, ensembleAt, ensemblesAt, servicesIn, servicesRoom, inside, past, ensemblesChecks, checks, hIn, eIn, sIn, countIn, payload, listIn, Accepts}
+use Rattle.meaning.specs.Reading.{serviceAt, servicesAt, ensembleAt, ensemblesAt, servicesIn, servicesRoom, inside, past, ensemblesChecks, checks, hIn, eIn, sIn, countIn, afterHeader, listIn, Accepts}
 use Rattle.meaning.proofs.Checks.{EnsemblePasses, ensemble-fine, HeaderPasses, header-fine}
 use Rattle.meaning.proofs.Rows.{serviceRow, serviceThird, ensembleRow, ensembleSecond, ensembleThird, chunkFirst, chunkSecond, chunkRow, wire-row}
 
@@ -168,12 +168,12 @@ module _ (c : Chunk) (t : Allowed c) where
       ap (λ (k : ℕ). getD xs (4 + k) 0) h-read
       ∙ getD-at before (length (c .ensembles)) rest 0 (4 + c .h) (omega (arith, t .header))
 
-  payload-read : payload xs ≡ rest
+  afterHeader-read : afterHeader xs ≡ rest
   unfolding chunkRow before rest
-  payload-read =
-      ap (λ (k : ℕ). drop (headerBytes + k) xs) h-read
-      ∙ ap (drop (headerBytes + c .h)) (sym (append-assoc before (length (c .ensembles) ∷ []) rest))
-      ∙ drop-at (before ++ (length (c .ensembles) ∷ [])) rest (headerBytes + c .h)
+  afterHeader-read =
+      ap (λ (k : ℕ). drop (chunkHeaderBytes + k) xs) h-read
+      ∙ ap (drop (chunkHeaderBytes + c .h)) (sym (append-assoc before (length (c .ensembles) ∷ []) rest))
+      ∙ drop-at (before ++ (length (c .ensembles) ∷ [])) rest (chunkHeaderBytes + c .h)
       (omega (arith, t .header, length-append (c .extension) (length (c .ensembles) ∷ [])))
 
   pub ensembles-held : Held (field 8 (length (c .ensembles)) ∷ flatMap ensembleFields (c .ensembles))
@@ -186,8 +186,8 @@ module _ (c : Chunk) (t : Allowed c) where
   list-read : listIn xs ≡ listOf c
   unfolding listIn chunkRow rest
   list-read =
-      let ensembles : ensemblesAt (eIn xs) (sIn xs) (countIn xs) (payload xs) ≡ map ensembleOf (c .ensembles) =
-      (λ i. ensemblesAt (e-read i) (s-read i) (count-read i) (payload-read i))
+      let ensembles : ensemblesAt (eIn xs) (sIn xs) (countIn xs) (afterHeader xs) ≡ map ensembleOf (c .ensembles) =
+      (λ i. ensemblesAt (e-read i) (s-read i) (count-read i) (afterHeader-read i))
       ∙ ensembles-read (c .e) (c .s) (c .ensembles) (c .stuffing) (ensembles-held .1) (t .loops) in
       λ i. record { stream = word-high-low (c .stream) i; ensembles = ensembles i }
 
@@ -205,7 +205,7 @@ module _ (c : Chunk) (t : Allowed c) where
   unfolding rest
   chunk-fine m v =
       header-fine xs (chunk-passes m)
-      ((λ i. ensemblesChecks (e-read i) (s-read i) (count-read i) (payload-read i))
+      ((λ i. ensemblesChecks (e-read i) (s-read i) (count-read i) (afterHeader-read i))
       ∙ ensembles-fine (c .e) (c .s) (c .ensembles) (c .stuffing) (ensembles-held .1) (t .loops) v)
 
   chunk-accepts : c .major ≡ 0 → Each (λ x. x .version ≡ 0) (c .ensembles) → Accepts xs (kindOf (c .current)) (c .minor) (listOf c)

@@ -9,7 +9,7 @@ use lib.Dec.{leb}
 use lib.ListN.{length, drop, length-drop}
 use Rattle.meaning.specs.Sizes.{enBytes, svBytes}
 use Rattle.meaning.specs.Listing.{markEN, markSV}
-use Rattle.meaning.specs.Listed.{stands, svFits, servicesFit, servicesSaid, enFits, ensemblesSaid}
+use Rattle.meaning.specs.Said.{stands, svFits, servicesFit, servicesSaid, enFits, ensemblesSaid}
 
 -- ---- as many as were counted
 

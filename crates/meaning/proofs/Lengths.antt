@@ -7,11 +7,11 @@ use native.Mathlib.Nat.{mul-le-mul-left, eq-zero-or-pos, le-add-right}
 use native.Mathlib.Omega.{arith}
 use lib.ListN.{length, length-append, length-drop}
 use Rattle.meaning.specs.declared.Checked.the-variants.{Fine}
-use Rattle.meaning.specs.Sizes.{headerBytes, ensembleBytes, serviceBytes, tsBytes, enBytes, svBytes, longestChunk, longestListing}
+use Rattle.meaning.specs.Sizes.{chunkHeaderBytes, ensembleBytes, serviceBytes, tsBytes, enBytes, svBytes, longestChunk, longestListing}
 use Rattle.meaning.specs.Lists.{Service, Ensemble, FicList, servicesOf}
 use Rattle.meaning.specs.Listing.{svRecord, ensembleListing, listing}
 use Rattle.meaning.specs.Plain.{plainLength}
-use Rattle.meaning.specs.Reading.{servicesAt, ensemblesAt, ensemblesChecks, checks, servicesIn, servicesRoom, inside, past, eIn, sIn, hIn, countIn, payload, listIn}
+use Rattle.meaning.specs.Reading.{servicesAt, ensemblesAt, ensemblesChecks, checks, servicesIn, servicesRoom, inside, past, eIn, sIn, hIn, countIn, afterHeader, listIn}
 use Rattle.meaning.proofs.Checks.{ensemble-passes, header-passes}
 
 -- ---- from the counts
@@ -77,13 +77,13 @@ list-room xs p =
     omega (
       arith,
       h .0 .fields,
-      ensembles-room (eIn xs) (sIn xs) (countIn xs) (payload xs) (h .1),
-      length-ensemblesAt (eIn xs) (sIn xs) (countIn xs) (payload xs),
-      length-drop (headerBytes + hIn xs) xs,
+      ensembles-room (eIn xs) (sIn xs) (countIn xs) (afterHeader xs) (h .1),
+      length-ensemblesAt (eIn xs) (sIn xs) (countIn xs) (afterHeader xs),
+      length-drop (chunkHeaderBytes + hIn xs) xs,
     )
 
 -- what the chunk has room for, the longest listing has room for; a service needs an ensemble
-counts-fit : (E S : ℕ) → headerBytes + ensembleBytes * E + serviceBytes * S ≤ longestChunk → (E ≡ 0 → S ≡ 0) → tsBytes + enBytes * E + svBytes * S ≤ longestListing
+counts-fit : (E S : ℕ) → chunkHeaderBytes + ensembleBytes * E + serviceBytes * S ≤ longestChunk → (E ≡ 0 → S ≡ 0) → tsBytes + enBytes * E + svBytes * S ≤ longestListing
 counts-fit E S h k =
     ⊎-elim
     (λ none. let no-service = k none in omega arith)

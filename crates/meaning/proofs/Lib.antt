@@ -1,10 +1,11 @@
 pub mod Checks
+pub mod Gives
 pub mod Rows
 pub mod Complete
 pub mod Sound
 pub mod Lengths
 pub mod Counts
-pub mod Listed
+pub mod Said
 pub mod Plain
 pub mod Answers
 pub mod Samples

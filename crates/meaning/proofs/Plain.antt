@@ -29,6 +29,10 @@ current-kind zero h = refl
 current-kind (suc zero) h = refl
 current-kind (suc (suc n)) h = absurd (omega arith)
 
+pub current-bit : (k : Kind) → currentOf k ≤ 1
+current-bit This = omega arith
+current-bit Next = omega arith
+
 pub plain-held : (k : Kind) (l : FicList) → Fits l → Held (chunkFields (plain k l))
 unfolding chunkFields
 plain-held This l h = h

@@ -13,10 +13,10 @@ use Rattle.octets.specs.Word.{word}
 use Rattle.octets.proofs.Laws.{each-append, each-join, high-word, low-word, bytes-take, bytes-drop, getD-byte}
 use Rattle.meaning.specs.declared.Kind.{Kind}
 use Rattle.meaning.specs.declared.Checked.the-variants.{Fine}
-use Rattle.meaning.specs.Sizes.{headerBytes, ensembleBytes, serviceBytes}
+use Rattle.meaning.specs.Sizes.{chunkHeaderBytes, ensembleBytes, serviceBytes}
 use Rattle.meaning.specs.Lists.{Service, Ensemble, FicList}
 use Rattle.meaning.specs.Layout.{ServiceRow, serviceFields, EnsembleRow, ensembleFields, Chunk, chunkFields, wire, serviceOf, ensembleOf, listOf, Carries}
-use Rattle.meaning.specs.Reading.{serviceAt, servicesAt, ensembleAt, ensemblesAt, servicesIn, servicesRoom, inside, past, ensemblesChecks, majorIn, minorIn, hIn, eIn, sIn, versionIn, streamIn, countIn, payload, listIn, Accepts}
+use Rattle.meaning.specs.Reading.{serviceAt, servicesAt, ensembleAt, ensemblesAt, servicesIn, servicesRoom, inside, past, ensemblesChecks, majorIn, minorIn, hIn, eIn, sIn, versionIn, streamIn, countIn, afterHeader, listIn, Accepts}
 use Rattle.meaning.proofs.Checks.{EnsemblePasses, ensemble-passes, HeaderPasses, header-passes}
 use Rattle.meaning.proofs.Rows.{serviceRow, serviceThird, ensembleRow, ensembleSecond, ensembleThird, chunkFirst, chunkSecond, chunkRow, wire-row}
 
@@ -227,23 +227,23 @@ chunkAt xs =
       current = getD xs 1 0 % 2;
       stream = streamIn xs;
       extension = take (hIn xs) (drop 4 xs);
-      ensembles = ensembleRowsAt (eIn xs) (sIn xs) (countIn xs) (payload xs);
-      stuffing = after (eIn xs) (sIn xs) (countIn xs) (payload xs);
+      ensembles = ensembleRowsAt (eIn xs) (sIn xs) (countIn xs) (afterHeader xs);
+      stuffing = after (eIn xs) (sIn xs) (countIn xs) (afterHeader xs);
     }
 
 list-of : (xs : List ℕ) → listOf (chunkAt xs) ≡ listIn xs
 unfolding chunkAt listIn
 list-of xs =
-    let ensembles = ensembles-of (eIn xs) (sIn xs) (countIn xs) (payload xs) in
+    let ensembles = ensembles-of (eIn xs) (sIn xs) (countIn xs) (afterHeader xs) in
     λ i. record { stream = streamIn xs; ensembles = ensembles i }
 
-module _ (xs : List ℕ) (b : Bytes xs) (h : HeaderPasses xs) (r : RowsOf (eIn xs) (sIn xs) (countIn xs) (payload xs)) where
+module _ (xs : List ℕ) (b : Bytes xs) (h : HeaderPasses xs) (r : RowsOf (eIn xs) (sIn xs) (countIn xs) (afterHeader xs)) where
   rows : List EnsembleRow
-  rows = ensembleRowsAt (eIn xs) (sIn xs) (countIn xs) (payload xs)
+  rows = ensembleRowsAt (eIn xs) (sIn xs) (countIn xs) (afterHeader xs)
 
   counted : length rows ≡ countIn xs
   unfolding rows
-  counted = length-ensembles (eIn xs) (sIn xs) (countIn xs) (payload xs)
+  counted = length-ensembles (eIn xs) (sIn xs) (countIn xs) (afterHeader xs)
 
   chunk-held : Held (chunkFields (chunkAt xs))
   unfolding chunkFields chunkAt rows
@@ -252,14 +252,14 @@ module _ (xs : List ℕ) (b : Bytes xs) (h : HeaderPasses xs) (r : RowsOf (eIn x
       let b1 = getD-byte xs 1 b in
       let b2 = getD-byte xs 2 b in
       let b3 = getD-byte xs 3 b in
-      let stuffing : List ℕ = after (eIn xs) (sIn xs) (countIn xs) (payload xs) in
+      let stuffing : List ℕ = after (eIn xs) (sIn xs) (countIn xs) (afterHeader xs) in
       let count : length rows < 256 = omega (arith, counted, getD-byte xs (4 + hIn xs) b) in
       each-join InWidth 8 (chunkFields (chunkAt xs)) (omega arith)
       (each-append InWidth (run (take (hIn xs) (drop 4 xs))) (field 8 (length rows) ∷ flatMap ensembleFields rows ++ run stuffing)
       (bytes-take (hIn xs) (drop 4 xs) (bytes-drop 4 xs b))
       (count, each-append InWidth (flatMap ensembleFields rows) (run stuffing) (r .held) (r .stuffing)))
 
-chunk-written : (xs : List ℕ) → Bytes xs → HeaderPasses xs → RowsOf (eIn xs) (sIn xs) (countIn xs) (payload xs) → chunkRow (chunkAt xs) ≡ xs
+chunk-written : (xs : List ℕ) → Bytes xs → HeaderPasses xs → RowsOf (eIn xs) (sIn xs) (countIn xs) (afterHeader xs) → chunkRow (chunkAt xs) ≡ xs
 unfolding chunkRow chunkAt
 chunk-written [] b h r = absurd (omega (arith, h .fields))
 chunk-written (x ∷ []) b h r = absurd (omega (arith, h .fields))
@@ -268,15 +268,15 @@ chunk-written (x ∷ y ∷ z ∷ []) b h r = absurd (omega (arith, h .fields))
 chunk-written (x ∷ y ∷ z ∷ u ∷ zs) b h r =
     let xs : List ℕ = x ∷ y ∷ z ∷ u ∷ zs in
     let n : ℕ = hIn xs in
-    let rows = ensembleRowsAt (eIn xs) (sIn xs) (countIn xs) (payload xs) in
-    let stuffing : List ℕ = after (eIn xs) (sIn xs) (countIn xs) (payload xs) in
+    let rows = ensembleRowsAt (eIn xs) (sIn xs) (countIn xs) (afterHeader xs) in
+    let stuffing : List ℕ = after (eIn xs) (sIn xs) (countIn xs) (afterHeader xs) in
     let first : chunkFirst (chunkAt xs) ≡ x = omega (arith, div-div-eq-div-mul x 8 8) in
     let second : chunkSecond (chunkAt xs) ≡ y = omega (arith, div-div-eq-div-mul y 2 2, div-div-eq-div-mul y 4 8) in
     let third = high-word z u (b .1 .1 .1 .0) in
     let fourth = low-word z u (b .1 .1 .1 .0) in
     let four : 4 + n ≡ suc (suc (suc (suc n))) = omega arith in
-    let five : headerBytes + n ≡ suc (suc (suc (suc (suc n)))) = omega arith in
-    let count : length rows ≡ getD zs n 0 = length-ensembles (eIn xs) (sIn xs) (countIn xs) (payload xs) ∙ ap (λ (k : ℕ). getD xs k 0) four in
+    let five : chunkHeaderBytes + n ≡ suc (suc (suc (suc (suc n)))) = omega arith in
+    let count : length rows ≡ getD zs n 0 = length-ensembles (eIn xs) (sIn xs) (countIn xs) (afterHeader xs) ∙ ap (λ (k : ℕ). getD xs k 0) four in
     let loop : flatMap ensembleRow rows ++ stuffing ≡ drop (suc n) zs = r .written ∙ ap (λ (k : ℕ). drop k xs) five in
     let rest : take n zs ++ (length rows ∷ (flatMap ensembleRow rows ++ stuffing)) ≡ zs =
     (λ i. take n zs ++ (count i ∷ loop i)) ∙ sym (split-at zs n 0 (omega (arith, h .fields))) in
@@ -287,7 +287,7 @@ pub accepted-carried : {xs : List ℕ} {k : Kind} {m : ℕ} {l : FicList} → By
 unfolding chunkAt
 accepted-carried {xs} {k} {m} {l} b a =
     let p = header-passes xs (a .passes) in
-    let r = rows-of (eIn xs) (sIn xs) (countIn xs) (payload xs) (bytes-drop (headerBytes + hIn xs) xs b) (p .1) in
+    let r = rows-of (eIn xs) (sIn xs) (countIn xs) (afterHeader xs) (bytes-drop (chunkHeaderBytes + hIn xs) xs b) (p .1) in
     let held = chunk-held xs b (p .0) r in
     let bytes : wire (chunkAt xs) ≡ xs = wire-row (chunkAt xs) held ∙ chunk-written xs b (p .0) r in
     record {

@@ -3,6 +3,7 @@ pub mod Lists
 pub mod Numbers
 pub mod Layout
 pub mod Listing
+pub mod Checks
 pub mod Reading
-pub mod Listed
+pub mod Said
 pub mod Plain

@@ -3,17 +3,18 @@ use Prim.Native.Nat.{ℕ, _+_, _*_}
 use mathlib.Core.List.{List, [], _∷_, _++_, flatMap}
 use lib.ListN.{length}
 use Rattle.octets.specs.Word.{wordBytes}
+use Rattle.text.specs.Text.{text}
 use Rattle.meaning.specs.Lists.{Service, Ensemble, FicList}
 
--- the marks: TS, EN, SV
+-- the marks
 abbrev pub markTS : List ℕ
-markTS = 0x54 ∷ 0x53 ∷ []
+markTS = text "TS"
 
 abbrev pub markEN : List ℕ
-markEN = 0x45 ∷ 0x4E ∷ []
+markEN = text "EN"
 
 abbrev pub markSV : List ℕ
-markSV = 0x53 ∷ 0x56 ∷ []
+markSV = text "SV"
 
 -- TS, transport_stream_id, number of ensembles
 abbrev pub tsRecord : FicList → List ℕ

@@ -1,17 +1,14 @@
 -- Document 01's numbers, and what an answer says in them.
 use Prim.Native.Nat.{ℕ}
-use mathlib.Core.Bool.{Bool, false, _||_}
-use mathlib.Core.List.{List, [], _∷_}
-use lib.Dec.{eqb}
 use Rattle.meaning.specs.declared.Refusal.{Refusal}
-use Rattle.meaning.specs.declared.Refusal.the-variants.{ShortBuffer, SegmentLength, SegmentType, ErrorBit, OtherMajor, NumberAboveLast, Clash, TooLong, EndsEarly, KindDiffers, OtherVersion, BadDesk, BadListing, TooMany, BadLog}
+use Rattle.meaning.specs.declared.Refusal.the-variants.{ShortBuffer, SegmentLength, SegmentType, ErrorBit, OtherMajor, NumberAboveLast, Clash, TooLong, EndsEarly, KindDiffers, OtherVersion, BadDesk}
 use Rattle.meaning.specs.declared.Checked.{Checked}
 use Rattle.meaning.specs.declared.Checked.the-variants.{Fine, Fault}
 use Rattle.meaning.specs.declared.Read.{Read}
 use Rattle.meaning.specs.declared.Read.the-variants.{Listed, Refused}
 use Rattle.meaning.specs.Lists.{currentOf}
 
--- the table "The numbers"
+-- the table "The numbers"; the writer's are in writer/specs/Writing.antt
 abbrev pub numberOf : Refusal → ℕ
 numberOf ShortBuffer = 1
 numberOf SegmentLength = 2
@@ -25,9 +22,6 @@ numberOf EndsEarly = 9
 numberOf KindDiffers = 10
 numberOf OtherVersion = 11
 numberOf BadDesk = 12
-numberOf BadListing = 13
-numberOf TooMany = 14
-numberOf BadLog = 15
 
 -- what some checks find: the refusal's number, 0 where they find nothing
 abbrev pub checkedNumber : Checked → ℕ
@@ -50,8 +44,3 @@ readValues (Refused f) = record { number = numberOf f; kind = 0; minor = 0; leng
 abbrev pub readFault : Read → Checked
 readFault (Listed k m n) = Fine
 readFault (Refused f) = Fault f
-
--- whether n is one of some numbers
-abbrev pub among : List ℕ → ℕ → Bool
-among [] n = false
-among (m ∷ ms) n = eqb n m || among ms n

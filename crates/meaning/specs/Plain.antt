@@ -7,7 +7,7 @@ use Rattle.octets.specs.Bits.{Held}
 use Rattle.octets.specs.Each.{Each}
 use Rattle.meaning.specs.declared.Kind.{Kind}
 use Rattle.meaning.specs.declared.Kind.the-variants.{This}
-use Rattle.meaning.specs.Sizes.{headerBytes, ensembleBytes, serviceBytes}
+use Rattle.meaning.specs.Sizes.{chunkHeaderBytes, ensembleBytes, serviceBytes}
 use Rattle.meaning.specs.Lists.{Service, Ensemble, FicList, currentOf, servicesOf}
 use Rattle.meaning.specs.Layout.{ServiceRow, EnsembleRow, Chunk, chunkFields}
 
@@ -50,7 +50,7 @@ Fits l = Held (chunkFields (plain This l))
 
 -- how many bytes such a chunk has: 5 + 4 x ensembles + 3 x services
 abbrev pub plainLength : FicList → ℕ
-plainLength l = headerBytes + ensembleBytes * length (l .ensembles) + serviceBytes * length (servicesOf l)
+plainLength l = chunkHeaderBytes + ensembleBytes * length (l .ensembles) + serviceBytes * length (servicesOf l)
 
 -- the chunk is of minor edition 0, with no extension and all reserved bits ones; its stuffing may be any
 pub record Oldest (c : Chunk) : Type 0 where

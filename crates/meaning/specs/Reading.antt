@@ -2,19 +2,19 @@
 -- and leaves in the lent buffer.
 use Prim.Native.Nat.{ℕ, zero, suc, _+_, _*_, _/_, _%_}
 use mathlib.Core.Path.{_≡_}
-use mathlib.Core.Bool.{Bool, cond, not}
+use mathlib.Core.Bool.{not}
 use mathlib.Core.List.{List, [], _∷_, _++_}
 use lib.Dec.{ltb, eqb}
 use lib.ListN.{length, getD, drop}
 use Rattle.octets.specs.Word.{word}
+use Rattle.octets.specs.Checks.{check}
 use Rattle.meaning.specs.declared.Kind.{Kind}
-use Rattle.meaning.specs.declared.Refusal.{Refusal}
 use Rattle.meaning.specs.declared.Refusal.the-variants.{ShortBuffer, OtherMajor, TooLong, EndsEarly, OtherVersion}
 use Rattle.meaning.specs.declared.Checked.{Checked}
 use Rattle.meaning.specs.declared.Checked.the-variants.{Fine, Fault}
 use Rattle.meaning.specs.declared.Read.{Read}
 use Rattle.meaning.specs.declared.Read.the-variants.{Listed, Refused}
-use Rattle.meaning.specs.Sizes.{longestChunk, headerBytes, ensembleBytes, serviceBytes, longestListing}
+use Rattle.meaning.specs.Sizes.{longestChunk, chunkHeaderBytes, ensembleBytes, serviceBytes, longestListing}
 use Rattle.meaning.specs.Lists.{Service, Ensemble, FicList, kindOf}
 use Rattle.meaning.specs.Listing.{listing}
 
@@ -57,8 +57,8 @@ abbrev pub servicesRoom : ℕ → ℕ → List ℕ → ℕ
 servicesRoom e s ys = servicesIn e ys * (serviceBytes + s)
 
 -- what follows the header, what follows the fields of an ensemble, and what follows its services
-abbrev pub payload : List ℕ → List ℕ
-payload xs = drop (headerBytes + hIn xs) xs
+abbrev pub afterHeader : List ℕ → List ℕ
+afterHeader xs = drop (chunkHeaderBytes + hIn xs) xs
 
 abbrev pub inside : ℕ → List ℕ → List ℕ
 inside e ys = drop (ensembleBytes + e) ys
@@ -68,31 +68,22 @@ past e s ys = drop (servicesRoom e s ys) (inside e ys)
 
 -- ---- the checks
 
--- the refusal where a rule is broken, else the checks that follow
-abbrev pub check : Bool → Refusal → Checked → Checked
-check broken f rest = cond broken (Fault f) rest
-
--- some checks, and then others
-abbrev pub andThen : Checked → Checked → Checked
-andThen (Fault f) rest = Fault f
-andThen Fine rest = rest
-
 -- n ensembles at the start of ys
 unfoldable pub ensemblesChecks : ℕ → ℕ → ℕ → List ℕ → Checked
 ensemblesChecks e s zero ys = Fine
 ensemblesChecks e s (suc n) ys =
-    check (ltb (length ys) (ensembleBytes + e)) EndsEarly  -- 9
-    (check (not (eqb (versionIn ys) 0)) OtherVersion  -- 11
-    (check (ltb (length (inside e ys)) (servicesRoom e s ys)) EndsEarly  -- 9
+    check (ltb (length ys) (ensembleBytes + e)) (Fault EndsEarly)  -- 9
+    (check (not (eqb (versionIn ys) 0)) (Fault OtherVersion)  -- 11
+    (check (ltb (length (inside e ys)) (servicesRoom e s ys)) (Fault EndsEarly)  -- 9
     (ensemblesChecks e s n (past e s ys))))
 
 unfoldable pub checks : List ℕ → Checked
 checks xs =
-    check (ltb longestChunk (length xs)) TooLong  -- 8
-    (check (ltb (length xs) 2) EndsEarly  -- 9
-    (check (not (eqb (majorIn xs) 0)) OtherMajor  -- 5
-    (check (ltb (length xs) (headerBytes + hIn xs)) EndsEarly  -- 9
-    (ensemblesChecks (eIn xs) (sIn xs) (countIn xs) (payload xs)))))
+    check (ltb longestChunk (length xs)) (Fault TooLong)  -- 8
+    (check (ltb (length xs) 2) (Fault EndsEarly)  -- 9
+    (check (not (eqb (majorIn xs) 0)) (Fault OtherMajor)  -- 5
+    (check (ltb (length xs) (chunkHeaderBytes + hIn xs)) (Fault EndsEarly)  -- 9
+    (ensemblesChecks (eIn xs) (sIn xs) (countIn xs) (afterHeader xs)))))
 
 -- ---- the list
 
@@ -123,7 +114,7 @@ ensemblesAt e s (suc n) ys = ensembleAt e s ys ∷ ensemblesAt e s n (past e s y
 
 unfoldable pub listIn : List ℕ → FicList
 listIn xs =
-    record { stream = streamIn xs; ensembles = ensemblesAt (eIn xs) (sIn xs) (countIn xs) (payload xs) }
+    record { stream = streamIn xs; ensembles = ensemblesAt (eIn xs) (sIn xs) (countIn xs) (afterHeader xs) }
 
 -- the chunk xs passes the checks, and is read as the list l for the frame k in the minor edition m
 pub record Accepts (xs : List ℕ) (k : Kind) (m : ℕ) (l : FicList) : Type 0 where
@@ -136,7 +127,7 @@ pub record Accepts (xs : List ℕ) (k : Kind) (m : ℕ) (l : FicList) : Type 0 w
 
 abbrev pub readChecks : List ℕ → List ℕ → Checked
 readChecks xs buffer =
-    check (ltb (length buffer) longestListing) ShortBuffer  -- 1
+    check (ltb (length buffer) longestListing) (Fault ShortBuffer)  -- 1
     (checks xs)
 
 abbrev pub readFor : Checked → List ℕ → Read
@@ -147,12 +138,12 @@ unfoldable pub readAnswer : List ℕ → List ℕ → Read
 readAnswer xs buffer = readFor (readChecks xs buffer) xs
 
 -- the listing at the start, bytes past it as they were; a refusal leaves all as it was
-abbrev pub leftBy : Read → List ℕ → List ℕ → List ℕ
-leftBy (Listed k m n) xs buffer = listing (listIn xs) ++ drop n buffer
-leftBy (Refused f) xs buffer = buffer
+abbrev pub bufferLeft : Read → List ℕ → List ℕ → List ℕ
+bufferLeft (Listed k m n) xs buffer = listing (listIn xs) ++ drop n buffer
+bufferLeft (Refused f) xs buffer = buffer
 
 unfoldable pub readBuffer : List ℕ → List ℕ → List ℕ
-readBuffer xs buffer = leftBy (readAnswer xs buffer) xs buffer
+readBuffer xs buffer = bufferLeft (readAnswer xs buffer) xs buffer
 
 -- what the reader promises: of the chunk xs and the buffer before, its answer, and the buffer after
 pub record ReadSays (xs before : List ℕ) (answer : Read) (after : List ℕ) : Type 0 where

@@ -1,13 +1,13 @@
 -- Every size of document 01 that the chunk and its listing have, by one name. The code has the same names.
-use Prim.Native.Nat.{ℕ}
+use Prim.Native.Nat.{ℕ, _*_}
 
--- a chunk: 16 segments of 35 bytes at the most
+-- the longest chunk: 16 segments of 35 bytes
 abbrev pub longestChunk : ℕ
-longestChunk = 560
+longestChunk = 16 * 35
 
 -- the bytes of a chunk's header, of an ensemble and of a service, extension bytes and what the loops hold aside
-abbrev pub headerBytes : ℕ
-headerBytes = 5
+abbrev pub chunkHeaderBytes : ℕ
+chunkHeaderBytes = 5
 
 abbrev pub ensembleBytes : ℕ
 ensembleBytes = 4
@@ -15,7 +15,7 @@ ensembleBytes = 4
 abbrev pub serviceBytes : ℕ
 serviceBytes = 3
 
--- the bytes of a listing's records, and of the mark that each begins with
+-- the bytes of a listing's records
 abbrev pub tsBytes : ℕ
 tsBytes = 5
 
@@ -24,9 +24,6 @@ enBytes = 6
 
 abbrev pub svBytes : ℕ
 svBytes = 7
-
-abbrev pub markBytes : ℕ
-markBytes = 2
 
 -- the greatest flags, channel version, multi, status and SP of a listing
 abbrev pub mostFlags : ℕ

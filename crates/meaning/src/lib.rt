@@ -10,7 +10,7 @@ pub enum Kind {
     Next,
 }
 
-// Why a call refuses, a variant for each number of document 01.
+// Why the reader or the desk refuses, a variant for each of their numbers in document 01.
 pub enum Refusal {
     ShortBuffer,
     SegmentLength,
@@ -24,9 +24,6 @@ pub enum Refusal {
     KindDiffers,
     OtherVersion,
     BadDesk,
-    BadListing,
-    TooMany,
-    BadLog,
 }
 
 // What the checks on a chunk find.
@@ -45,25 +42,24 @@ pub enum Read {
     Refused(Refusal),
 }
 
-// The longest chunk, and the shortest header, ensemble and service of one: their bytes with no extension.
-pub const LONGEST_CHUNK: usize = 560;
+// The longest chunk: 16 segments of 35 bytes.
+pub const LONGEST_CHUNK: usize = 16 * 35;
 
-pub const HEADER: usize = 5;
+// The bytes of a chunk's header, of an ensemble and of a service, with no extension.
+pub const CHUNK_HEADER_BYTES: usize = 5;
 
-pub const ENSEMBLE: usize = 4;
+pub const ENSEMBLE_BYTES: usize = 4;
 
-pub const SERVICE: usize = 3;
+pub const SERVICE_BYTES: usize = 3;
 
-// The longest listing of a chunk, the listing's three records, and the mark of a record.
+// The longest listing of a chunk, and the listing's three records.
 pub const LONGEST_LISTING: usize = 1292;
 
-pub const TS_RECORD: usize = 5;
+pub const TS_BYTES: usize = 5;
 
-pub const EN_RECORD: usize = 6;
+pub const EN_BYTES: usize = 6;
 
-pub const SV_RECORD: usize = 7;
-
-pub const MARK: usize = 2;
+pub const SV_BYTES: usize = 7;
 
 // The greatest flags, channel version, multi, status and SP of a listing.
 pub const MOST_FLAGS: u8 = 7;
@@ -110,8 +106,5 @@ pub fn number_of(refusal: Refusal) -> u8
         Refusal::KindDiffers => 10,
         Refusal::OtherVersion => 11,
         Refusal::BadDesk => 12,
-        Refusal::BadListing => 13,
-        Refusal::TooMany => 14,
-        Refusal::BadLog => 15,
     }
 }

@@ -12,6 +12,7 @@ use lib.ListN.{length, getD, take, drop, length-append, length-take}
 use lib.Seq.{take-at, drop-at, getD-drop}
 use lib.Pow.{pow-mono, pow-add, mod-pow-add, shr-shr}
 use Rattle.octets.specs.Bits.{Field, field, bits, laid, number, octets, bytesOf, InWidth, Held, run, Bytes}
+use Rattle.octets.specs.Checks.{check}
 use Rattle.octets.specs.Each.{Each}
 use Rattle.octets.specs.Same.{same}
 use Rattle.octets.specs.Word.{word, high, low, wordBytes}
@@ -21,6 +22,11 @@ use Rattle.octets.specs.Word.{word, high, low, wordBytes}
 pub either : {P : Type 0} (t : Bool) → (t ≡ true → P) → (t ≡ false → P) → P
 either true a b = a refl
 either false a b = b refl
+
+-- a rule that is not broken, by an answer that is not the one for it: what follows gives that answer
+pub check-follows : {A : Type 0} (broken : Bool) {answer rest v : A} → (answer ≡ v → ⊥) → check broken answer rest ≡ v → (broken ≡ false) × (rest ≡ v)
+check-follows true other e = absurd (other e)
+check-follows false other e = (refl, e)
 
 -- ---- equal byte strings
 

@@ -2,3 +2,4 @@ pub mod Bits
 pub mod Each
 pub mod Word
 pub mod Same
+pub mod Checks

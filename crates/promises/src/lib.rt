@@ -2,13 +2,15 @@
 // call. A call that said less, or that asked for something, would not be taken here. No `requires` stands on this page.
 use desk::Desk;
 use desk::Taken;
-use lines::Entry;
 use meaning::Checked;
 use meaning::Kind;
 use meaning::Read;
 use meaning::Refusal;
+use records::Entry;
+use records::Form;
 use slots::Slot;
 use typed::Reply;
+use writer::Unwritten;
 use writer::Written;
 ghost use mathlib.Core.Path.{_≡_};
 ghost use denote.Ref.{ptr};
@@ -18,12 +20,14 @@ ghost use Rattle.meaning.specs.Lists.{kindOf, currentOf};
 ghost use Rattle.meaning.specs.Numbers.{numberOf};
 ghost use Rattle.meaning.specs.Reading.{checks, readAnswer, readBuffer, ReadSays};
 ghost use Rattle.segments.specs.Segment.{segmentChecks};
-ghost use Rattle.writer.specs.Writing.{writeAnswer, writeOutput, WriteSays};
+ghost use Rattle.writer.specs.Writing.{unwrittenNumber, writeAnswer, writeOutput, WriteSays};
 ghost use Rattle.typed.specs.Typed.{ReplySays};
 ghost use Rattle.slots.specs.Slots.{slotFits};
-ghost use Rattle.desk.specs.Desks.{fresh, newGathering, newFrame, after, segmentAfter, lentFor, shown};
-ghost use Rattle.lines.specs.Log.{entryIn};
-ghost use Rattle.lukasembo.specs.Told.{readTold, writeTold};
+ghost use Rattle.notes.specs.Notes.{lentFor};
+ghost use Rattle.desk.specs.Desks.{fresh, newGathering, newFrame, after, segmentAfter, shown};
+ghost use Rattle.records.specs.Records.{markIn, entryAs, entryIn, endNumber};
+ghost use Rattle.replay.specs.Log.{logForm};
+ghost use Rattle.lukasembo.specs.Packed.{packedRead, packedWritten};
 
 // ---- the reader
 
@@ -36,7 +40,7 @@ pub fn read(chunk: &[u8], out: &mut [u8]) -> Read
 pub fn check_chunk(chunk: &[u8]) -> Checked
     ensures { λ r. ⌜ r ≡ checks (now (chunk .entry)) ⌝ }
 {
-    reader::check_chunk(chunk)
+    chunk_checks::check_chunk(chunk)
 }
 
 // ---- a segment by itself
@@ -84,7 +88,7 @@ pub fn segment(desk: Desk, seg: &[u8], first: &mut [u8], second: &mut [u8]) -> T
 // The part that is shown lies where one of the two buffers begins.
 pub fn show<'a>(desk: Desk, kind: Kind, first: &'a [u8], second: &'a [u8]) -> &'a [u8]
     ensures { λ r. ⌜ now r ≡ shown kind desk (now (first .entry)) (now (second .entry)) ⌝ }
-    ensures { λ r. ⌜ ptr r ≡ lentFor kind (desk .marks .swapped) (ptr (first .entry)) (ptr (second .entry)) ⌝ }
+    ensures { λ r. ⌜ ptr r ≡ lentFor kind (desk .notes .swapped) (ptr (first .entry)) (ptr (second .entry)) ⌝ }
 {
     desk.show(kind, first, second)
 }
@@ -98,21 +102,41 @@ pub fn respond(text: &[u8], log: &mut [u8]) -> Reply
 }
 
 pub fn read_for_c(chunk: &[u8], buffer: &mut [u8]) -> u64
-    ensures { λ r. ⌜ (r ≡ readTold (readAnswer (now (chunk .entry)) (now (buffer .entry)))) × (now (buffer .exit) ≡ readBuffer (now (chunk .entry)) (now (buffer .entry))) ⌝ }
+    ensures { λ r. ⌜ (r ≡ packedRead (readAnswer (now (chunk .entry)) (now (buffer .entry)))) × (now (buffer .exit) ≡ readBuffer (now (chunk .entry)) (now (buffer .entry))) ⌝ }
 {
     lukasembo::lukasembo_read(chunk, buffer)
 }
 
 pub fn write_for_c(listing: &[u8], current: u8, output: &mut [u8]) -> u64
-    ensures { λ r. ⌜ (r ≡ writeTold (writeAnswer (now (listing .entry)) (kindOf current) (now (output .entry)))) × (now (output .exit) ≡ writeOutput (now (listing .entry)) (kindOf current) (now (output .entry))) ⌝ }
+    ensures { λ r. ⌜ (r ≡ packedWritten (writeAnswer (now (listing .entry)) (kindOf current) (now (output .entry)))) × (now (output .exit) ≡ writeOutput (now (listing .entry)) (kindOf current) (now (output .entry))) ⌝ }
 {
     lukasembo::lukasembo_write(listing, current, output)
 }
 
 pub fn entry_at(log: &[u8], at: usize) -> Entry
-    ensures { λ r. ⌜ r ≡ entryIn (drop at (now (log .entry))) ⌝ }
+    ensures { λ r. ⌜ r ≡ entryIn logForm (drop at (now (log .entry))) ⌝ }
 {
-    lines::entry_at(log, at)
+    replay::entry_at(log, at)
+}
+
+// ---- records with a mark
+
+pub fn mark_at(file: &[u8], at: usize) -> u16
+    ensures { λ r. ⌜ r ≡ markIn (drop at (now (file .entry))) ⌝ }
+{
+    records::mark_at(file, at)
+}
+
+pub fn entry_as(file: &[u8], at: usize, form: Form) -> Entry
+    ensures { λ r. ⌜ r ≡ entryAs form (drop at (now (file .entry))) ⌝ }
+{
+    records::entry_at(file, at, form)
+}
+
+pub fn end_number(entry: Entry) -> u8
+    ensures { λ r. ⌜ r ≡ endNumber entry ⌝ }
+{
+    records::end_number(entry)
 }
 
 pub fn slot_fits(slot: Slot, bytes: &[u8]) -> bool
@@ -137,6 +161,12 @@ pub fn number_of(refusal: Refusal) -> u8
     ensures { λ r. ⌜ r ≡ numberOf refusal ⌝ }
 {
     meaning::number_of(refusal)
+}
+
+pub fn unwritten_number(refusal: Unwritten) -> u8
+    ensures { λ r. ⌜ r ≡ unwrittenNumber refusal ⌝ }
+{
+    writer::unwritten_number(refusal)
 }
 
 pub fn word_of(first: u8, second: u8) -> u16

@@ -1,17 +1,15 @@
 -- The checks on a segment, one after the other. Assumes nothing.
 use mathlib.Core.Path.{_≡_}
-use mathlib.Core.Bool.{Bool, true, false}
 use mathlib.Core.List.{List, [], _∷_}
 use Prim.Native.Nat.{ℕ, _≤_, _<_}
 use borrow.Author.Tests.{lt-ltb, le-ltb, eq-eqb, ne-eqb}
 use lib.Dec.{T}
 use lib.ListN.{length}
-use Rattle.meaning.specs.declared.Refusal.{Refusal}
+use Rattle.octets.specs.Checks.{among}
 use Rattle.meaning.specs.declared.Refusal.the-variants.{SegmentLength, SegmentType, ErrorBit, OtherMajor, NumberAboveLast}
-use Rattle.meaning.specs.declared.Checked.{Checked}
 use Rattle.meaning.specs.declared.Checked.the-variants.{Fine, Fault}
-use Rattle.meaning.specs.Numbers.{numberOf, among, checkedNumber}
-use Rattle.meaning.specs.Reading.{check}
+use Rattle.meaning.specs.Numbers.{checkedNumber}
+use Rattle.meaning.proofs.Gives.{Gives, gives-fine, gives-check, gives-number}
 use Rattle.segments.specs.Segment.{segmentBytes, sortIn, errorIn, segmentMajor, numberIn, lastIn, segmentChecks}
 
 module _ (xs : List ℕ) where
@@ -45,25 +43,9 @@ module _ (xs : List ℕ) where
 
 -- ---- the numbers that they can give
 
-numbers : List ℕ
-numbers = 0 ∷ 2 ∷ 3 ∷ 4 ∷ 5 ∷ 6 ∷ []
-
--- what some checks find has one of these numbers
-Numbered : Checked → Type 0
-Numbered v = T (among numbers (checkedNumber v))
-
-numbered-fine : Numbered Fine
-unfolding Numbered numbers
-numbered-fine = tt
-
-numbered-check : (t : Bool) (f : Refusal) (v : Checked) → T (among (0 ∷ 2 ∷ 3 ∷ 4 ∷ 5 ∷ 6 ∷ []) (numberOf f)) → Numbered v → Numbered (check t f v)
-unfolding Numbered numbers
-numbered-check true f v m n = m
-numbered-check false f v m n = n
-
 pub check-numbers : (xs : List ℕ) → T (among (0 ∷ 2 ∷ 3 ∷ 4 ∷ 5 ∷ 6 ∷ []) (checkedNumber (segmentChecks xs)))
-unfolding Numbered numbers segmentChecks
-check-numbers xs = all xs
+unfolding segmentChecks
+check-numbers xs = gives-number (2 ∷ 3 ∷ 4 ∷ 5 ∷ 6 ∷ []) (segmentChecks xs) gives
   where
-    all : (ys : List ℕ) → Numbered (segmentChecks ys)
-    all ys = search (numbered-check, numbered-fine) depth 8
+    gives : Gives (2 ∷ 3 ∷ 4 ∷ 5 ∷ 6 ∷ []) (segmentChecks xs)
+    gives = search (gives-check, gives-fine) depth 8

@@ -7,7 +7,7 @@ use lib.ListN.{length, take, drop}
 use Rattle.octets.specs.Bits.{Field, run, InWidth, Held, Bytes}
 use Rattle.octets.proofs.Laws.{each-append, packed, bytes-made, makes-byte, makes-append, makes-run}
 use Rattle.meaning.specs.Lists.{kindOf}
-use Rattle.segments.specs.Segment.{headBytes, Head, headFields, segment, sortIn, segmentMajor, segmentKind, errorIn, numberIn, lastIn, payloadIn}
+use Rattle.segments.specs.Segment.{segmentHeaderBytes, Head, headFields, segment, sortIn, segmentMajor, segmentKind, errorIn, numberIn, lastIn, payloadIn}
 
 -- ---- the bytes that the fields make, and the fields that are read in them
 
@@ -29,7 +29,7 @@ segment-bytes h payload held bytes =
     (each-append InWidth (headFields h) (run payload) held bytes)
     ∙ (λ i. first i ∷ second i ∷ payload)
 
-pub head-read : (h : Head) (payload : List ℕ) → Held (headFields h) → Bytes payload → let xs = segment h payload in (sortIn xs ≡ h .sort) × (segmentMajor xs ≡ h .major) × (segmentKind xs ≡ kindOf (h .current)) × (errorIn xs ≡ h .error) × (numberIn xs ≡ h .number) × (lastIn xs ≡ h .last) × (payloadIn xs ≡ payload) × (length xs ≡ headBytes + length payload)
+pub head-read : (h : Head) (payload : List ℕ) → Held (headFields h) → Bytes payload → let xs = segment h payload in (sortIn xs ≡ h .sort) × (segmentMajor xs ≡ h .major) × (segmentKind xs ≡ kindOf (h .current)) × (errorIn xs ≡ h .error) × (numberIn xs ≡ h .number) × (lastIn xs ≡ h .last) × (payloadIn xs ≡ payload) × (length xs ≡ segmentHeaderBytes + length payload)
 unfolding headFields
 head-read h payload held bytes =
     let current : headFirst h / 2 % 2 ≡ h .current = omega arith in

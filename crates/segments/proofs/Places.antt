@@ -7,7 +7,7 @@ use native.Mathlib.Numerals.{add-one}
 use native.Mathlib.Omega.{arith}
 use lib.ListN.{length, getD, set, take, drop, replicate, length-drop, drop-of-length-le}
 use lib.Seq.{drop-cons, getD-take, getD-drop, length-take-le, take-nil, take-add, take-all, take-append-le, drop-append-le, sets, sets-eq}
-use Rattle.segments.specs.Segment.{segmentBytes, headBytes, payloadBytes, placeOf, payloadIn}
+use Rattle.segments.specs.Segment.{segmentBytes, segmentHeaderBytes, payloadBytes, placeOf, payloadIn}
 
 -- the 35 bytes from the place at on
 abbrev pub part : List ℕ → ℕ → List ℕ
@@ -43,8 +43,8 @@ module _ (xs : List ℕ) (at : ℕ) where
     part-done l i h = let past : length (part xs at) ≤ i = omega (arith, length-part) in ap (sets l i) (drop-of-length-le (part xs at) past)
 
 -- a segment's payload is all that follows its header
-pub part-payload : (xs : List ℕ) → length xs ≡ segmentBytes → part xs headBytes ≡ payloadIn xs
-part-payload xs whole = take-all payloadBytes (payloadIn xs) (omega (arith, length-drop headBytes xs))
+pub part-payload : (xs : List ℕ) → length xs ≡ segmentBytes → part xs segmentHeaderBytes ≡ payloadIn xs
+part-payload xs whole = take-all payloadBytes (payloadIn xs) (omega (arith, length-drop segmentHeaderBytes xs))
 
 -- a place within a byte string is the same with more behind it
 pub place-within : (xs more : List ℕ) (i : ℕ) → payloadBytes * i + payloadBytes ≤ length xs → placeOf (xs ++ more) i ≡ placeOf xs i

@@ -8,8 +8,8 @@ use Rattle.meaning.specs.Reading.{majorIn}
 use Rattle.segments.specs.Segment.{payloadBytes, placeOf, Head, segment}
 
 -- how many segments hold a chunk of n bytes: as few as possible
-abbrev pub segmentsFor : ℕ → ℕ
-segmentsFor n = (n + (payloadBytes - 1)) / payloadBytes
+abbrev pub segmentCount : ℕ → ℕ
+segmentCount n = (n + (payloadBytes - 1)) / payloadBytes
 
 -- what the sender of a chunk is free to choose: the reserved bit and the wake_up_indicator of the segment with the number i, and the stuffing
 -- that fills up the last payload
@@ -23,7 +23,7 @@ pub record Suits (xs : List ℕ) (c : Choice) : Type 0 where
   pub reserved : (i : ℕ) → c .reserved i < 2
   pub wake : (i : ℕ) → c .wake i < 2
   pub bytes : Bytes (c .fill)
-  pub whole : length (xs ++ c .fill) ≡ payloadBytes * segmentsFor (length xs)
+  pub whole : length (xs ++ c .fill) ≡ payloadBytes * segmentCount (length xs)
 
 -- the header of the segment with the number i: type 0, error 0, the chunk's major and current_next
 abbrev pub headOf : List ℕ → Choice → ℕ → Head
@@ -36,7 +36,7 @@ headOf xs c i =
       current = getD xs 1 0 % 2;
       error = 0;
       number = i;
-      last = segmentsFor (length xs) - 1;
+      last = segmentCount (length xs) - 1;
     }
 
 -- the segment with the number i
@@ -50,7 +50,7 @@ upFrom i (suc n) = i ∷ upFrom (suc i) n
 
 -- all segments, in order
 abbrev pub cut : List ℕ → Choice → List (List ℕ)
-cut xs c = map (pieceOf xs c) (upFrom 0 (segmentsFor (length xs)))
+cut xs c = map (pieceOf xs c) (upFrom 0 (segmentCount (length xs)))
 
 -- segments one after the other
 abbrev pub joined : List (List ℕ) → List ℕ

@@ -6,20 +6,20 @@ use mathlib.Core.List.{List, [], _∷_, _++_}
 use lib.Dec.{ltb, eqb}
 use lib.ListN.{length, getD, take, drop}
 use Rattle.octets.specs.Bits.{Field, field, run, bytesOf}
+use Rattle.octets.specs.Checks.{check}
 use Rattle.meaning.specs.declared.Kind.{Kind}
 use Rattle.meaning.specs.declared.Refusal.the-variants.{SegmentLength, SegmentType, ErrorBit, OtherMajor, NumberAboveLast}
 use Rattle.meaning.specs.declared.Checked.{Checked}
-use Rattle.meaning.specs.declared.Checked.the-variants.{Fine}
+use Rattle.meaning.specs.declared.Checked.the-variants.{Fine, Fault}
 use Rattle.meaning.specs.Lists.{kindOf}
-use Rattle.meaning.specs.Reading.{check}
 
 -- ---- sizes: a segment, its header, its payload; how many segments a chunk has at the most
 
 abbrev pub segmentBytes : ℕ
 segmentBytes = 37
 
-abbrev pub headBytes : ℕ
-headBytes = 2
+abbrev pub segmentHeaderBytes : ℕ
+segmentHeaderBytes = 2
 
 abbrev pub payloadBytes : ℕ
 payloadBytes = 35
@@ -80,15 +80,15 @@ abbrev pub lastIn : List ℕ → ℕ
 lastIn xs = getD xs 1 0 % 16
 
 abbrev pub payloadIn : List ℕ → List ℕ
-payloadIn xs = drop headBytes xs
+payloadIn xs = drop segmentHeaderBytes xs
 
 -- ---- the checks on a segment's own length and header
 
 unfoldable pub segmentChecks : List ℕ → Checked
 segmentChecks xs =
-    check (not (eqb (length xs) segmentBytes)) SegmentLength  -- 2
-    (check (not (eqb (sortIn xs) 0)) SegmentType  -- 3
-    (check (not (eqb (errorIn xs) 0)) ErrorBit  -- 4
-    (check (not (eqb (segmentMajor xs) 0)) OtherMajor  -- 5
-    (check (ltb (lastIn xs) (numberIn xs)) NumberAboveLast  -- 6
+    check (not (eqb (length xs) segmentBytes)) (Fault SegmentLength)  -- 2
+    (check (not (eqb (sortIn xs) 0)) (Fault SegmentType)  -- 3
+    (check (not (eqb (errorIn xs) 0)) (Fault ErrorBit)  -- 4
+    (check (not (eqb (segmentMajor xs) 0)) (Fault OtherMajor)  -- 5
+    (check (ltb (lastIn xs) (numberIn xs)) (Fault NumberAboveLast)  -- 6
     Fine))))

@@ -8,11 +8,11 @@ ghost use lib.Seq.{sets};
 ghost use Rattle.segments.specs.Segment.{payloadBytes, segmentChecks};
 
 // A segment, its header and its payload; how many segments a chunk has at the most.
-pub const SEGMENT: usize = 37;
+pub const SEGMENT_BYTES: usize = 37;
 
-pub const HEAD: usize = 2;
+pub const SEGMENT_HEADER_BYTES: usize = 2;
 
-pub const PAYLOAD: usize = 35;
+pub const PAYLOAD_BYTES: usize = 35;
 
 pub const MOST_SEGMENTS: u8 = 16;
 
@@ -20,7 +20,7 @@ pub const MOST_SEGMENTS: u8 = 16;
 pub fn check_segment(seg: &[u8]) -> Checked
     ensures { λ r. ⌜ r ≡ segmentChecks (now (seg .entry)) ⌝ }
 {
-    if seg.len() != SEGMENT {
+    if seg.len() != SEGMENT_BYTES {
         return Checked::Fault(Refusal::SegmentLength);
     }
     let first = seg[0];
@@ -41,14 +41,14 @@ pub fn check_segment(seg: &[u8]) -> Checked
 }
 
 // 35 bytes from a place on, by value: so the copies to and from them are known to touch nothing else, and go in blocks. Internal, as the two
-// below: `slots` and `writer` call them (docs/DECISIONS.md, 7).
+// below: `slots`, `segment_puts` and `writer` call them (docs/DECISIONS.md, 7).
 pub fn payload_at(bytes: &[u8], at: usize) -> [u8; 35]
     requires { ⌜ at + payloadBytes ≤ length (now bytes) ⌝ }
     ensures { λ r. ⌜ r ≡ take payloadBytes (drop at (now (bytes .entry))) ⌝ }
 {
-    let mut payload = [0u8; PAYLOAD];
+    let mut payload = [0u8; PAYLOAD_BYTES];
     let mut i = 0;
-    while i < PAYLOAD {
+    while i < PAYLOAD_BYTES {
         payload[i] = bytes[at + i];
         i += 1;
     }
@@ -61,7 +61,7 @@ pub fn put_payload(payload: [u8; 35], to: &mut [u8], place: usize)
     ensures { λ _. ⌜ now (to .exit) ≡ sets (now (to .entry)) place payload ⌝ }
 {
     let mut i = 0;
-    while i < PAYLOAD {
+    while i < PAYLOAD_BYTES {
         to[place + i] = payload[i];
         i += 1;
     }

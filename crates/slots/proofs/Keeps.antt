@@ -17,7 +17,7 @@ use Rattle.meaning.specs.Sizes.{longestChunk}
 use Rattle.meaning.specs.Reading.{checks}
 use Rattle.slots.specs.declared.Slot.{Slot}
 use Rattle.octets.specs.Same.{same}
-use Rattle.segments.specs.Segment.{segmentBytes, headBytes, payloadBytes, mostSegments, placeOf, segmentChecks, sortIn, errorIn, segmentMajor, numberIn, lastIn, payloadIn}
+use Rattle.segments.specs.Segment.{segmentBytes, segmentHeaderBytes, payloadBytes, mostSegments, placeOf, segmentChecks, sortIn, errorIn, segmentMajor, numberIn, lastIn, payloadIn}
 use Rattle.slots.specs.Slots.{zeros, allBelow, holds, including, emptySlot, spoiledSlot, noBytes, missingIn, numbersFit, bytesFit, slotFits, clashing, holding}
 use Rattle.slots.specs.Gathering.{Side, hold, chunkIn, kindChecks, judged, completed, placed, gathered}
 use Rattle.octets.proofs.Laws.{either, same-eq}
@@ -141,7 +141,7 @@ hold-fits xs s bytes e p c f =
     let small : held < 2 ^ (lastIn xs + 1) = including-small _ _ (lastIn xs + 1) (omega arith) (held-small xs s bytes e c) f in
     simp (eq-eqb _ _ (length-sets bytes (payloadBytes * numberIn xs) (payloadIn xs) ∙ w .0), ne-eqb _ _ some, lt-ltb _ _ (last-small xs), lt-ltb _ _ small)
     (all-below mostSegments (clean held stored) (λ i l.
-    place-fits (s .held) bytes (payloadIn xs) (numberIn xs) i f (length-drop headBytes xs ∙ omega arith) (omega arith) (below-all mostSegments (clean (s .held) bytes) (w .2) i l)))
+    place-fits (s .held) bytes (payloadIn xs) (numberIn xs) i f (length-drop segmentHeaderBytes xs ∙ omega arith) (omega arith) (below-all mostSegments (clean (s .held) bytes) (w .2) i l)))
 
 -- ---- a segment that passed its checks comes
 

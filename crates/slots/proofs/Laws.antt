@@ -21,10 +21,10 @@ use Rattle.meaning.specs.Listing.{listing}
 use Rattle.meaning.specs.Reading.{checks, listIn}
 use Rattle.meaning.proofs.Lengths.{listing-fits}
 use Rattle.slots.specs.declared.Slot.{Slot}
-use Rattle.slots.specs.declared.Answer.the-variants.{Missing, Listed, Refused}
+use Rattle.slots.specs.declared.Answer.the-variants.{Missing, NewList, Refused}
 use Rattle.octets.specs.Same.{same}
 use Rattle.octets.proofs.Laws.{either}
-use Rattle.segments.specs.Segment.{segmentBytes, headBytes, payloadBytes, mostSegments, placeOf, numberIn, lastIn, payloadIn, segmentChecks}
+use Rattle.segments.specs.Segment.{segmentBytes, segmentHeaderBytes, payloadBytes, mostSegments, placeOf, numberIn, lastIn, payloadIn, segmentChecks}
 use Rattle.slots.specs.Slots.{holds, missingIn, slotFits, clashing, holding}
 use Rattle.slots.specs.Gathering.{Side, Outcome, side, outcome, spoil, hold, chunkIn, kindChecks, judged, completed, gathered}
 use Rattle.slots.proofs.Keeps.{slot-numbers, hold-fits}
@@ -40,16 +40,16 @@ module _ (k : Kind) (s : Side) where
   unfolding completed
   kind-refused e h = sym (ap (λ (v : Checked). judged (kindChecks v k (chunkIn s)) k s) e ∙ simp (ne-eqb _ _ h))
 
-  pub completed-listed : checks (chunkIn s) ≡ Fine → getD (chunkIn s) 1 0 % 2 ≡ currentOf k → let l = listing (listIn (chunkIn s)) in completed k s ≡ outcome (Listed k (length l)) (side (s .slot) (s .bytes) (l ++ drop (length l) (s .buffer)))
+  pub completed-listed : checks (chunkIn s) ≡ Fine → getD (chunkIn s) 1 0 % 2 ≡ currentOf k → let l = listing (listIn (chunkIn s)) in completed k s ≡ outcome (NewList k (length l)) (side (s .slot) (s .bytes) (l ++ drop (length l) (s .buffer)))
   unfolding completed
   completed-listed e h = ap (λ (v : Checked). judged (kindChecks v k (chunkIn s)) k s) e ∙ simp (eq-eqb _ _ h)
 
-  pub chunk-listed : (n : ℕ) (after : List ℕ) → longestListing ≤ length (s .buffer) → checks (chunkIn s) ≡ Fine → getD (chunkIn s) 1 0 % 2 ≡ currentOf k → n ≡ length (listing (listIn (chunkIn s))) → after ≡ sets (s .buffer) 0 (listing (listIn (chunkIn s))) → outcome (Listed k n) (side (s .slot) (s .bytes) after) ≡ completed k s
+  pub chunk-listed : (n : ℕ) (after : List ℕ) → longestListing ≤ length (s .buffer) → checks (chunkIn s) ≡ Fine → getD (chunkIn s) 1 0 % 2 ≡ currentOf k → n ≡ length (listing (listIn (chunkIn s))) → after ≡ sets (s .buffer) 0 (listing (listIn (chunkIn s))) → outcome (NewList k n) (side (s .slot) (s .bytes) after) ≡ completed k s
   chunk-listed n after room e h size stored =
       let l : List ℕ = listing (listIn (chunkIn s)) in
       let fits : 0 + length l ≤ length (s .buffer) = omega (arith, listing-fits (chunkIn s) e) in
       let left = stored ∙ sets-eq l (s .buffer) 0 fits ∙ ap (λ (m : ℕ). l ++ drop m (s .buffer)) (zero-add (length l)) in
-      (λ i. outcome (Listed k (size i)) (side (s .slot) (s .bytes) (left i))) ∙ sym (completed-listed e h)
+      (λ i. outcome (NewList k (size i)) (side (s .slot) (s .bytes) (left i))) ∙ sym (completed-listed e h)
 
 -- ---- whether a segment clashes
 
@@ -76,7 +76,7 @@ module _ (s : Slot) (bytes xs : List ℕ) where
         pub clash-held : (r : Bool) → length xs ≡ segmentBytes → holds (s .held) (numberIn xs) ≡ true → r ≡ same (placeOf bytes (numberIn xs)) (take payloadBytes (payloadIn xs)) → not r ≡ clashing s bytes xs
         unfolding clashing
         clash-held r size h e =
-            let all : length (payloadIn xs) ≤ payloadBytes = omega (arith, length-drop headBytes xs) in
+            let all : length (payloadIn xs) ≤ payloadBytes = omega (arith, length-drop segmentHeaderBytes xs) in
             ap not (e ∙ ap (same (placeOf bytes (numberIn xs))) (take-all payloadBytes (payloadIn xs) all))
             ∙ simp (whole, ne-eqb _ _ some, eq-eqb _ _ last, h)
 

@@ -6,6 +6,7 @@ use mathlib.Core.List.{List, _++_}
 use lib.Dec.{eqb}
 use lib.ListN.{length, getD, take, drop}
 use lib.Seq.{sets}
+use Rattle.octets.specs.Checks.{check}
 use Rattle.meaning.specs.declared.Kind.{Kind}
 use Rattle.meaning.specs.declared.Refusal.the-variants.{Clash, KindDiffers}
 use Rattle.meaning.specs.declared.Checked.{Checked}
@@ -13,10 +14,11 @@ use Rattle.meaning.specs.declared.Checked.the-variants.{Fine, Fault}
 use Rattle.meaning.specs.Numbers.{numberOf}
 use Rattle.meaning.specs.Lists.{currentOf}
 use Rattle.meaning.specs.Listing.{listing}
-use Rattle.meaning.specs.Reading.{check, andThen, checks, listIn}
+use Rattle.meaning.specs.Checks.{andThen}
+use Rattle.meaning.specs.Reading.{checks, listIn}
 use Rattle.slots.specs.declared.Slot.{Slot}
 use Rattle.slots.specs.declared.Answer.{Answer}
-use Rattle.slots.specs.declared.Answer.the-variants.{Missing, Listed, Refused}
+use Rattle.slots.specs.declared.Answer.the-variants.{Missing, NewList, Refused}
 use Rattle.segments.specs.Segment.{payloadBytes, numberIn, payloadIn}
 use Rattle.slots.specs.Slots.{noBytes, holds, spoiledSlot, missingIn, clashing, holding}
 
@@ -31,13 +33,13 @@ pub record AnswerValues : Type 0 where
 
 abbrev pub answerValues : Answer → AnswerValues
 answerValues (Missing n) = record { number = 0; missing = n; kind = 0; length = 0 }
-answerValues (Listed k n) = record { number = 0; missing = 0; kind = currentOf k; length = n }
+answerValues (NewList k n) = record { number = 0; missing = 0; kind = currentOf k; length = n }
 answerValues (Refused f) = record { number = numberOf f; missing = 0; kind = 0; length = 0 }
 
 -- and whether it is a refusal, as checks say it
 abbrev pub answerFault : Answer → Checked
 answerFault (Missing n) = Fine
-answerFault (Listed k n) = Fine
+answerFault (NewList k n) = Fine
 answerFault (Refused f) = Fault f
 
 -- ---- a slot, its bytes, and the buffer of its kind; an answer, and what is left
@@ -70,14 +72,14 @@ abbrev pub chunkIn : Side → List ℕ
 chunkIn s = take (payloadBytes * (s .slot .last + 1)) (s .bytes)
 
 abbrev pub kindChecks : Checked → Kind → List ℕ → Checked
-kindChecks v k xs = andThen v (check (not (eqb (getD xs 1 0 % 2) (currentOf k))) KindDiffers Fine)  -- 10
+kindChecks v k xs = andThen v (check (not (eqb (getD xs 1 0 % 2) (currentOf k))) (Fault KindDiffers) Fine)  -- 10
 
 -- a refused chunk changes no listing; the listing of any other goes to the start of the buffer, and bytes past it stay
 abbrev pub judged : Checked → Kind → Side → Outcome
 judged (Fault f) k s = outcome (Refused f) s
 judged Fine k s =
     let l = listing (listIn (chunkIn s)) in
-    outcome (Listed k (length l)) (side (s .slot) (s .bytes) (l ++ drop (length l) (s .buffer)))
+    outcome (NewList k (length l)) (side (s .slot) (s .bytes) (l ++ drop (length l) (s .buffer)))
 
 unfoldable pub completed : Kind → Side → Outcome
 completed k s = judged (kindChecks (checks (chunkIn s)) k (chunkIn s)) k s

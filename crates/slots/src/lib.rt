@@ -4,9 +4,9 @@ use meaning::Checked;
 use meaning::Kind;
 use meaning::LONGEST_CHUNK;
 use meaning::Refusal;
-use segments::HEAD;
 use segments::MOST_SEGMENTS;
-use segments::PAYLOAD;
+use segments::PAYLOAD_BYTES;
+use segments::SEGMENT_HEADER_BYTES;
 ghost use mathlib.Core.Path.{_≡_};
 ghost use mathlib.Core.Bool.{true, cond};
 ghost use Prim.Native.Nat.{_+_, _*_, _^_, _≤_, _<_};
@@ -32,7 +32,7 @@ pub enum Answer {
     // accepted; so many are still missing
     Missing(u8),
     // the last missing one: a listing of this length now stands at the start of that kind's buffer
-    Listed { kind: Kind, length: usize },
+    NewList { kind: Kind, length: usize },
     Refused(Refusal),
 }
 
@@ -122,7 +122,7 @@ fn store(bytes: &mut [u8], at: usize, seg: &[u8])
     requires { ⌜ (at + payloadBytes ≤ length (now bytes)) × (length (now seg) ≡ segmentBytes) ⌝ }
     ensures { λ _. ⌜ now (bytes .exit) ≡ sets (now (bytes .entry)) at (payloadIn (now (seg .entry))) ⌝ }
 {
-    segments::copy_payload(seg, HEAD, bytes, at);
+    segments::copy_payload(seg, SEGMENT_HEADER_BYTES, bytes, at);
 }
 
 // ---- slots
@@ -152,11 +152,11 @@ fn bytes_fit(held: u16, bytes: &[u8]) -> bool
     requires { ⌜ length (now bytes) ≡ longestChunk ⌝ }
     ensures { λ r. ⌜ r ≡ bytesFit held (now (bytes .entry)) ⌝ }
 {
-    let none: &[u8] = &[0u8; PAYLOAD];
+    let none: &[u8] = &[0u8; PAYLOAD_BYTES];
     let mut fits = true;
     let mut place = 0u8;
     while place < MOST_SEGMENTS {
-        fits = fits && (holds(held, place) || same(bytes, PAYLOAD * place as usize, none, 0));
+        fits = fits && (holds(held, place) || same(bytes, PAYLOAD_BYTES * place as usize, none, 0));
         place += 1;
     }
     fits
@@ -204,7 +204,12 @@ fn clashes(slot: Slot, bytes: &[u8], seg: &[u8]) -> bool
         return true;
     }
     if holds(slot.held, place) {
-        return !same(bytes, PAYLOAD * place as usize, seg, HEAD);
+        return !same(
+            bytes,
+            PAYLOAD_BYTES * place as usize,
+            seg,
+            SEGMENT_HEADER_BYTES,
+        );
     }
     false
 }
@@ -214,16 +219,16 @@ fn complete(kind: Kind, slot: Slot, bytes: &[u8], out: &mut [u8]) -> Answer
     requires { ⌜ (length (now bytes) ≡ longestChunk) × (slot .last < mostSegments) × (longestListing ≤ length (now out)) ⌝ }
     ensures { λ r. ⌜ outcome r (side slot (now (bytes .entry)) (now (out .exit))) ≡ completed kind (side slot (now (bytes .entry)) (now (out .entry))) ⌝ }
 {
-    let end = PAYLOAD * (slot.last as usize + 1);
+    let end = PAYLOAD_BYTES * (slot.last as usize + 1);
     let chunk = &bytes[..end];
-    match reader::check_chunk(chunk) {
+    match chunk_checks::check_chunk(chunk) {
         Checked::Fault(refusal) => Answer::Refused(refusal),
         Checked::Fine => {
             if chunk[1] % 2 != meaning::current_of(kind) {
                 return Answer::Refused(Refusal::KindDiffers);
             }
-            let length = reader::write_listing(chunk, out);
-            Answer::Listed {
+            let length = listing_puts::write_listing(chunk, out);
+            Answer::NewList {
                 kind: kind,
                 length: length,
             }
@@ -283,7 +288,7 @@ pub fn gather(
             answer: Answer::Missing(missing(slot)),
         };
     }
-    store(bytes, PAYLOAD * number as usize, seg);
+    store(bytes, PAYLOAD_BYTES * number as usize, seg);
     let more = Slot {
         last: seg[1] % 16,
         held: slot.held + bit(number),

@@ -1,17 +1,18 @@
 -- Laws of the log that is put, in the code's own terms: an output xs and a place in it, instead of what is left of the output. Assumes nothing.
 use mathlib.Core.Path.{_≡_, refl, sym, ap, ap₂, _∙_}
 use mathlib.Core.List.{List, [], _∷_, _++_, flatMap, append-assoc}
+use Prim.Native.Char.{code}
 use Prim.Native.Nat.{ℕ, zero, suc, _+_, _-_, _*_, _≤_, _<_}
 use native.Mathlib.Omega.{arith}
 use lib.ListN.{length, getD, take, drop, set, length-append, length-drop}
 use lib.Seq.{take-at, drop-at, drop-drop, getD-drop, getD-take, length-take-le, sets}
 use Rattle.octets.specs.Each.{Each}
 use Rattle.octets.proofs.Stores.{stored, sets-append, copy-next, copy-done}
-use Rattle.meaning.specs.Sizes.{markBytes}
+use Rattle.text.specs.Text.{text}
+use Rattle.records.specs.Records.{markBytes}
 use Rattle.segments.specs.Segment.{segmentBytes}
 use Rattle.segments.specs.Cut.{joined}
-use Rattle.typed.specs.Typed.{markSG, logOf}
-use Rattle.typed.specs.Put.{logPut}
+use Rattle.typed.specs.Typed.{logOf, logPut}
 
 -- the segment at a place
 abbrev pub segmentAt : List ℕ → ℕ → List ℕ
@@ -19,9 +20,9 @@ segmentAt xs from = take segmentBytes (drop from xs)
 
 -- ---- a record: its mark, then its segment
 
-pub record-stored : (s l : List ℕ) (to : ℕ) → sets (set (set l to (getD markSG 0 0)) (to + 1) (getD markSG 1 0)) (to + markBytes) s ≡ sets l to (markSG ++ s)
+pub record-stored : (s l : List ℕ) (to : ℕ) → sets (set (set l to (code "S")) (to + 1) (code "G")) (to + markBytes) s ≡ sets l to (text "SG" ++ s)
 record-stored s l to =
-    ap (λ (t : List ℕ). sets t (to + markBytes) s) (stored (getD markSG 0 0) (drop 1 markSG) l to) ∙ sym (sets-append markSG s l to)
+    ap (λ (t : List ℕ). sets t (to + markBytes) s) (stored (code "S") (text "G") l to) ∙ sym (sets-append (text "SG") s l to)
 
 module _ (xs : List ℕ) (from : ℕ) (room : from + segmentBytes ≤ length xs) where
   length-segmentAt : length (segmentAt xs from) ≡ segmentBytes
@@ -41,12 +42,12 @@ module _ (xs : List ℕ) (from : ℕ) (room : from + segmentBytes ≤ length xs)
 
   -- ---- one record after the other: n from the place on
 
-  pub log-next : (l m : List ℕ) (to n : ℕ) → 0 < n → m ≡ sets l to (markSG ++ segmentAt xs from) → sets m (to + (markBytes + segmentBytes)) (logPut (n - 1) (drop (from + segmentBytes) xs)) ≡ sets l to (logPut n (drop from xs))
+  pub log-next : (l m : List ℕ) (to n : ℕ) → 0 < n → m ≡ sets l to (text "SG" ++ segmentAt xs from) → sets m (to + (markBytes + segmentBytes)) (logPut (n - 1) (drop (from + segmentBytes) xs)) ≡ sets l to (logPut n (drop from xs))
   unfolding logPut
   log-next l m to zero some put = absurd (omega arith)
   log-next l m to (suc n) some put =
       let one : suc n - 1 ≡ n = omega arith in
-      let first : List ℕ = markSG ++ segmentAt xs from in
+      let first : List ℕ = text "SG" ++ segmentAt xs from in
       let rest : List ℕ = logPut n (drop segmentBytes (drop from xs)) in
       let long : markBytes + segmentBytes ≡ length first = omega (arith, length-segmentAt) in
       rw (one, sym (drop-drop segmentBytes from xs), put)
@@ -65,11 +66,11 @@ unfolding logPut flatMap
 logPut-joined [] rest h = refl
 logPut-joined (s ∷ more) rest h =
     let others : List ℕ = joined more ++ rest in
-    ap (λ (t : List ℕ). (markSG ++ take segmentBytes t) ++ logPut (length more) (drop segmentBytes t)) (append-assoc s (joined more) rest)
-    ∙ ap₂ (λ (a b : List ℕ). (markSG ++ a) ++ logPut (length more) b) (take-at s others segmentBytes (h .0)) (drop-at s others segmentBytes (h .0))
-    ∙ ap (λ (t : List ℕ). (markSG ++ s) ++ t) (logPut-joined more rest (h .1))
+    ap (λ (t : List ℕ). (text "SG" ++ take segmentBytes t) ++ logPut (length more) (drop segmentBytes t)) (append-assoc s (joined more) rest)
+    ∙ ap₂ (λ (a b : List ℕ). (text "SG" ++ a) ++ logPut (length more) b) (take-at s others segmentBytes (h .0)) (drop-at s others segmentBytes (h .0))
+    ∙ ap (λ (t : List ℕ). (text "SG" ++ s) ++ t) (logPut-joined more rest (h .1))
 
 pub length-logOf : (segments : List (List ℕ)) → Each (λ s. length s ≡ segmentBytes) segments → length (logOf segments) ≡ (markBytes + segmentBytes) * length segments
 unfolding flatMap
 length-logOf [] h = refl
-length-logOf (s ∷ more) h = omega (arith, length-append (markSG ++ s) (logOf more), h .0, length-logOf more (h .1))
+length-logOf (s ∷ more) h = omega (arith, length-append (text "SG" ++ s) (logOf more), h .0, length-logOf more (h .1))

@@ -2,35 +2,36 @@
 use mathlib.Core.Path.{_≡_, refl, sym, ap, ap₂, _∙_, subst}
 use mathlib.Core.Bool.{Bool, true, false, _&&_, _||_, and-eq-true-iff}
 use mathlib.Core.List.{List, _++_}
-use Prim.Native.Nat.{ℕ, zero, suc, _+_, _-_, _*_, _/_, _%_, _≤_, _<_}
+use Prim.Native.Nat.{ℕ, _+_, _-_, _*_, _/_, _%_, _≤_, _<_}
 use native.Mathlib.Nat.{zero-add}
 use native.Mathlib.Omega.{arith}
-use borrow.Author.Tests.{ltb-true, ltb-false, lt-ltb, le-ltb, eq-eqb, ne-eqb}
+use borrow.Author.Tests.{ltb-false, lt-ltb, le-ltb, eq-eqb, ne-eqb}
 use lib.Dec.{eqb, ltb}
-use lib.ListN.{length, getD, drop, replicate}
+use lib.ListN.{length, drop, replicate}
 use lib.Seq.{sets, sets-eq}
 use Rattle.octets.specs.Bits.{Bytes}
 use Rattle.octets.specs.Each.{Each}
 use Rattle.octets.proofs.Laws.{either}
+use Rattle.hex.specs.Hex.{hexFits, hexSaid}
+use Rattle.hex.proofs.Read.{bytes-hexSaid}
 use Rattle.meaning.specs.declared.Kind.{Kind}
 use Rattle.meaning.specs.declared.Kind.the-variants.{This, Next}
-use Rattle.meaning.specs.declared.Refusal.{Refusal}
-use Rattle.meaning.specs.Sizes.{longestChunk, markBytes}
-use Rattle.meaning.specs.Numbers.{numberOf}
-use Rattle.meaning.specs.Listed.{listingFits, listSaid}
+use Rattle.records.specs.Records.{markBytes}
+use Rattle.meaning.specs.Sizes.{longestChunk}
+use Rattle.meaning.specs.Said.{listingFits, listSaid}
 use Rattle.meaning.specs.Plain.{Fits, plainLength}
-use Rattle.meaning.proofs.Listed.{said-fitting}
+use Rattle.meaning.proofs.Said.{said-fitting}
 use Rattle.segments.specs.Segment.{segmentBytes, mostSegments}
 use Rattle.segments.specs.Cut.{joined}
+use Rattle.writer.specs.declared.Unwritten.{Unwritten}
 use Rattle.writer.specs.declared.Written.{Written}
 use Rattle.writer.specs.declared.Written.the-variants.{Segments, Refused}
-use Rattle.writer.specs.Writing.{shortestOutput, segmentsOf, WriteSays}
+use Rattle.writer.specs.Writing.{shortestOutput, unwrittenNumber, plainSegments, WriteSays}
 use Rattle.writer.proofs.Answers.{segments-says}
-use Rattle.writer.proofs.Outputs.{length-segmentsOf, segmentsOf-whole}
+use Rattle.writer.proofs.Outputs.{length-plainSegments, plainSegments-whole}
 use Rattle.typed.specs.declared.Reply.{Reply}
 use Rattle.typed.specs.declared.Reply.the-variants.{Log, Not, Unclear, TooLong, NoRoom}
-use Rattle.typed.specs.Typed.{longestText, kindBytes, wordThis, wordNext, begins, lineLength, digitOf, hexFits, hexSaid, digitsTyped, bytesTyped, listingTyped, clear, kindTyped, logOf, longestLog, ReplyValues, replyValues, answerFor, replyFor, replyTo, Answerable, leftBy, ReplySays}
-use Rattle.typed.specs.Put.{logPut}
+use Rattle.typed.specs.Typed.{longestText, kindBytes, wordThis, wordNext, begins, lineLength, digitsTyped, bytesTyped, listingTyped, clear, kindTyped, logOf, longestLog, ReplyValues, replyValues, answerFor, replyFor, replyTo, Answerable, replyLog, ReplySays, logPut}
 use Rattle.typed.proofs.Texts.{line-room}
 use Rattle.typed.proofs.Logs.{logPut-joined, length-logOf}
 
@@ -41,12 +42,12 @@ blank = replicate shortestOutput 0
 -- ---- the writer's answer w to a listing
 
 module _ (xs : List ℕ) (k : Kind) (after : List ℕ) (w : Written) (says : WriteSays xs k blank w after) where
-  pub reply-refused : {f : Refusal} → w ≡ Refused f → Not f ≡ replyFor (answerFor k xs)
+  pub reply-refused : {f : Unwritten} → w ≡ Refused f → Not f ≡ replyFor (answerFor k xs)
   reply-refused is = ap replyFor (sym is ∙ says .answers)
 
   module _ (n : ℕ) (is : w ≡ Segments n) (bytes : Bytes xs) where
     abbrev s : List (List ℕ)
-    s = segmentsOf k (listSaid xs)
+    s = plainSegments k (listSaid xs)
 
     told : (listingFits xs ≡ true) × (plainLength (listSaid xs) ≤ longestChunk) × (n ≡ length s) × (after ≡ joined s ++ drop (segmentBytes * n) blank)
     told = segments-says xs k blank (subst (λ (r : Written). WriteSays xs k blank r after) is says)
@@ -55,13 +56,13 @@ module _ (xs : List ℕ) (k : Kind) (after : List ℕ) (w : Written) (says : Wri
     held = said-fitting xs bytes (told .0)
 
     whole : Each (λ s. length s ≡ segmentBytes) s
-    whole = segmentsOf-whole k (listSaid xs) held (told .1)
+    whole = plainSegments-whole k (listSaid xs) held (told .1)
 
     pub segments-few : n ≤ mostSegments
-    segments-few = omega (arith, told, length-segmentsOf k (listSaid xs) held)
+    segments-few = omega (arith, told, length-plainSegments k (listSaid xs) held)
 
     -- their log, put over what was lent
-    pub reply-log : (log left : List ℕ) → longestLog ≤ length log → left ≡ sets log 0 (logPut n after) → let r = Log ((markBytes + segmentBytes) * n) in (r ≡ replyFor (answerFor k xs)) × (left ≡ leftBy r k xs log)
+    pub reply-log : (log left : List ℕ) → longestLog ≤ length log → left ≡ sets log 0 (logPut n after) → let r = Log ((markBytes + segmentBytes) * n) in (r ≡ replyFor (answerFor k xs)) × (left ≡ replyLog r k xs log)
     reply-log log left room put =
         let own : logPut n after ≡ logOf s = ap₂ logPut (told .2) (told .3) ∙ logPut-joined s (drop (segmentBytes * n) blank) whole in
         let long : length (logOf s) ≡ (markBytes + segmentBytes) * n = omega (arith, length-logOf s whole, told .2) in
@@ -92,8 +93,8 @@ module _ (text : List ℕ) (room : kindBytes ≤ length text) where
 
 module _ (text log : List ℕ) where
   -- an answer that is the right one leaves what the right one leaves
-  says : {answer : Reply} → answer ≡ replyTo text log → ReplySays text log answer (leftBy answer (kindTyped text) (listingTyped text) log)
-  says e = record { answers = e; leaves = ap (λ (r : Reply). leftBy r (kindTyped text) (listingTyped text) log) e }
+  says : {answer : Reply} → answer ≡ replyTo text log → ReplySays text log answer (replyLog answer (kindTyped text) (listingTyped text) log)
+  says e = record { answers = e; leaves = ap (λ (r : Reply). replyLog r (kindTyped text) (listingTyped text) log) e }
 
   pub says-short : length log < longestLog → ReplySays text log NoRoom log
   unfolding replyTo
@@ -124,13 +125,13 @@ module _ (text log : List ℕ) where
           pub says-digitless : hexFits ((n - kindBytes) / 2) (drop kindBytes text) ≡ false → ReplySays text log Unclear log
           says-digitless e = unclear (clear-tests ∙ ap₂ _&&_ (eq-eqb _ _ even) e)
 
-          pub says-answered : hexFits ((n - kindBytes) / 2) (drop kindBytes text) ≡ true → {r : Reply} {left : List ℕ} → let xs = hexSaid ((n - kindBytes) / 2) (drop kindBytes text) in r ≡ replyFor (answerFor k xs) → left ≡ leftBy r k xs log → ReplySays text log r left
+          pub says-answered : hexFits ((n - kindBytes) / 2) (drop kindBytes text) ≡ true → {r : Reply} {left : List ℕ} → let xs = hexSaid ((n - kindBytes) / 2) (drop kindBytes text) in r ≡ replyFor (answerFor k xs) → left ≡ replyLog r k xs log → ReplySays text log r left
           unfolding replyTo
           says-answered e {r} {left} reply leaves =
               let clears : clear text ≡ true = clear-tests ∙ ap₂ _&&_ (eq-eqb _ _ even) e in
               let xs : listingTyped text ≡ hexSaid ((n - kindBytes) / 2) (drop kindBytes text) = ap (λ (m : ℕ). hexSaid ((m - kindBytes) / 2) (drop kindBytes text)) (sym is) in
               let right : r ≡ replyTo text log = reply ∙ sym (simp (le-ltb _ _ room, le-ltb _ _ fits, clears) (ap₂ (λ (j : Kind) (ys : List ℕ). replyFor (answerFor j ys)) (w .kind) xs)) in
-              record { answers = right; leaves = leaves ∙ sym (ap₂ (λ (j : Kind) (ys : List ℕ). leftBy r j ys log) (w .kind) xs) ∙ says right .leaves }
+              record { answers = right; leaves = leaves ∙ sym (ap₂ (λ (j : Kind) (ys : List ℕ). replyLog r j ys log) (w .kind) xs) ∙ says right .leaves }
 
 -- ---- the values of an answer
 
@@ -146,7 +147,7 @@ module _ (text log : List ℕ) where
     pub values-written : {n : ℕ} → answerFor (kindTyped text) (listingTyped text) ≡ Segments n → replyValues (replyTo text log) ≡ record { log = true; number = 0; length = (markBytes + segmentBytes) * n }
     values-written e = ap replyValues (answerable-reply ∙ ap replyFor e)
 
-    pub values-refused : {f : Refusal} → answerFor (kindTyped text) (listingTyped text) ≡ Refused f → replyValues (replyTo text log) ≡ record { log = false; number = numberOf f; length = 0 }
+    pub values-refused : {f : Unwritten} → answerFor (kindTyped text) (listingTyped text) ≡ Refused f → replyValues (replyTo text log) ≡ record { log = false; number = unwrittenNumber f; length = 0 }
     values-refused e = ap replyValues (answerable-reply ∙ ap replyFor e)
 
   pub values-unasked : (Answerable text log → ⊥) → replyValues (replyTo text log) ≡ nothing
@@ -158,16 +159,6 @@ module _ (text log : List ℕ) where
       (λ l. either (clear text) (λ c. absurd (none (ltb-false _ _ s, ltb-false _ _ l, c))) (λ c. simp (s, l, c))))
 
 -- ---- the length of a log
-
-bytes-said : (n : ℕ) (text : List ℕ) → hexFits n text ≡ true → Bytes (hexSaid n text)
-unfolding hexFits hexSaid
-bytes-said zero text e = tt
-bytes-said (suc n) text e =
-    let a : ℕ = digitOf (getD text 0 0) in
-    let b : ℕ = digitOf (getD text 1 0) in
-    let p = and-eq-true-iff (ltb a 16 && ltb b 16) (hexFits n (drop 2 text)) .0 e in
-    let q = and-eq-true-iff (ltb a 16) (ltb b 16) .0 (p .0) in
-    (omega (arith, ltb-true a 16 (q .0), ltb-true b 16 (q .1)), bytes-said n (drop 2 text) (p .1))
 
 -- the writer's answer to bytes
 answer-short : (k : Kind) (xs : List ℕ) → Bytes xs → replyValues (replyFor (answerFor k xs)) .length ≤ longestLog
@@ -185,7 +176,7 @@ log-short text log =
     either (ltb longestText (length text)) (λ l. simp (s, l) (omega arith))
     (λ l.
     either (clear text)
-    (λ c. simp (s, l, c) (answer-short (kindTyped text) (listingTyped text) (bytes-said (bytesTyped text) (drop kindBytes text) (clear-digits c))))
+    (λ c. simp (s, l, c) (answer-short (kindTyped text) (listingTyped text) (bytes-hexSaid (bytesTyped text) (drop kindBytes text) (clear-digits c))))
     (λ c. simp (s, l, c) (omega arith))))
   where
     clear-digits : clear text ≡ true → hexFits (bytesTyped text) (drop kindBytes text) ≡ true

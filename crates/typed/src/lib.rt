@@ -1,9 +1,10 @@
 // What is typed to the program `write`: a kind and a listing in hex; and the answer, a log of the writer's segments.
 use meaning::Kind;
-use meaning::MARK;
-use meaning::Refusal;
-use segments::SEGMENT;
-use writer::OUTPUT;
+use records::MARK_BYTES;
+use segments::MOST_SEGMENTS;
+use segments::SEGMENT_BYTES;
+use writer::SHORTEST_OUTPUT;
+use writer::Unwritten;
 use writer::Written;
 ghost use mathlib.Core.Path.{_≡_};
 ghost use mathlib.Core.Bool.{true};
@@ -11,17 +12,18 @@ ghost use mathlib.Core.List.{_++_};
 ghost use Prim.Native.Nat.{_+_, _*_, _≤_, _<_};
 ghost use lib.ListN.{length, take, drop};
 ghost use lib.Seq.{sets};
-ghost use Rattle.meaning.specs.Sizes.{markBytes};
+ghost use Rattle.text.specs.Text.{text as Text·text};
+ghost use Rattle.hex.specs.Hex.{hexFits, hexSaid};
+ghost use Rattle.records.specs.Records.{markBytes};
 ghost use Rattle.segments.specs.Segment.{segmentBytes, mostSegments};
-ghost use Rattle.typed.specs.Typed.{kindBytes, begins as Typed·begins, lineLength, digitOf, hexFits, hexSaid, markSG, longestLog, answerFor, replyFor, leftBy, ReplySays};
-ghost use Rattle.typed.specs.Put.{logPut};
+ghost use Rattle.typed.specs.Typed.{kindBytes, begins as Typed·begins, lineLength, longestLog, answerFor, replyFor, replyLog, ReplySays, logPut};
 
 // What is answered to a text.
 pub enum Reply {
     // a log of so many bytes now stands at the start of the lent buffer
     Log(usize),
     // the writer refuses the listing
-    Not(Refusal),
+    Not(Unwritten),
     // it is no kind, a space and bytes in hex
     Unclear,
     TooLong,
@@ -29,17 +31,15 @@ pub enum Reply {
     NoRoom,
 }
 
-const TEXT: usize = 65535;
+const LONGEST_TEXT: usize = 65535;
 
-const WORD: usize = 5;
+const KIND_BYTES: usize = 5;
 
 // The longest listing that such a text can have.
 const LISTING: usize = 32768;
 
 // Room for the log of the longest chunk: a mark and a segment, 16 times.
-pub const LOG: usize = 624;
-
-const NEWLINE: u8 = 0x0A;
+pub const LONGEST_LOG: usize = MOST_SEGMENTS as usize * (MARK_BYTES + SEGMENT_BYTES);
 
 // ---- the text
 
@@ -49,7 +49,7 @@ fn begins(text: &[u8], word: &[u8]) -> bool
     ensures { λ r. ⌜ r ≡ Typed·begins (now (word .entry)) (now (text .entry)) ⌝ }
 {
     let mut i = 0;
-    while i < WORD {
+    while i < KIND_BYTES {
         if text[i] != word[i] {
             return false;
         }
@@ -66,57 +66,10 @@ fn line_length(text: &[u8]) -> usize
     if length == 0 {
         return 0;
     }
-    if text[length - 1] == NEWLINE {
+    if text[length - 1] == b'\n' {
         return length - 1;
     }
     length
-}
-
-// The value of a hex digit, 16 for any other character.
-fn digit(c: u8) -> u8
-    ensures { λ r. ⌜ r ≡ digitOf c ⌝ }
-{
-    match c {
-        0x30..=0x39 => c - 0x30,
-        0x41..=0x46 => c - 0x37,
-        0x61..=0x66 => c - 0x57,
-        _ => 16,
-    }
-}
-
-// Whether count bytes in hex stand from a place of the text on.
-fn hex_fits(text: &[u8], from: usize, count: usize) -> bool
-    requires { ⌜ from + 2 * count ≤ length (now text) ⌝ }
-    ensures { λ r. ⌜ r ≡ hexFits count (drop from (now (text .entry))) ⌝ }
-{
-    let mut at = from;
-    let mut left = count;
-    while 0 < left {
-        if 16 <= digit(text[at]) {
-            return false;
-        }
-        if 16 <= digit(text[at + 1]) {
-            return false;
-        }
-        at += 2;
-        left -= 1;
-    }
-    true
-}
-
-// Puts those bytes at the start of the listing.
-fn put_hex(text: &[u8], from: usize, count: usize, listing: &mut [u8])
-    requires { ⌜ (from + 2 * count ≤ length (now text)) × (count ≤ length (now listing)) ⌝ }
-    requires { ⌜ hexFits count (drop from (now text)) ≡ true ⌝ }
-    ensures { λ _. ⌜ now (listing .exit) ≡ sets (now (listing .entry)) 0 (hexSaid count (drop from (now (text .entry)))) ⌝ }
-{
-    let mut at = from;
-    let mut to = 0;
-    while to < count {
-        listing[to] = digit(text[at]) * 16 + digit(text[at + 1]);
-        at += 2;
-        to += 1;
-    }
 }
 
 // ---- the log
@@ -124,13 +77,13 @@ fn put_hex(text: &[u8], from: usize, count: usize, listing: &mut [u8])
 // Puts the mark SG and a segment at a place of the log.
 fn put_record(segments: &[u8], from: usize, log: &mut [u8], to: usize)
     requires { ⌜ (from + segmentBytes ≤ length (now segments)) × (to + (markBytes + segmentBytes) ≤ length (now log)) ⌝ }
-    ensures { λ _. ⌜ now (log .exit) ≡ sets (now (log .entry)) to (markSG ++ take segmentBytes (drop from (now (segments .entry)))) ⌝ }
+    ensures { λ _. ⌜ now (log .exit) ≡ sets (now (log .entry)) to (Text·text "SG" ++ take segmentBytes (drop from (now (segments .entry)))) ⌝ }
 {
     log[to] = b'S';
     log[to + 1] = b'G';
-    let start = to + MARK;
+    let start = to + MARK_BYTES;
     let mut i = 0;
-    while i < SEGMENT {
+    while i < SEGMENT_BYTES {
         log[start + i] = segments[from + i];
         i += 1;
     }
@@ -146,8 +99,8 @@ fn put_log(segments: &[u8], count: usize, log: &mut [u8])
     let mut left = count;
     while 0 < left {
         put_record(segments, from, log, to);
-        from += SEGMENT;
-        to += MARK + SEGMENT;
+        from += SEGMENT_BYTES;
+        to += MARK_BYTES + SEGMENT_BYTES;
         left -= 1;
     }
 }
@@ -158,13 +111,13 @@ fn put_log(segments: &[u8], count: usize, log: &mut [u8])
 fn answer(kind: Kind, listing: &[u8], log: &mut [u8]) -> Reply
     requires { ⌜ longestLog ≤ length (now log) ⌝ }
     ensures { λ r. ⌜ r ≡ replyFor (answerFor kind (now (listing .entry))) ⌝ }
-    ensures { λ r. ⌜ now (log .exit) ≡ leftBy r kind (now (listing .entry)) (now (log .entry)) ⌝ }
+    ensures { λ r. ⌜ now (log .exit) ≡ replyLog r kind (now (listing .entry)) (now (log .entry)) ⌝ }
 {
-    let mut output = [0u8; OUTPUT];
+    let mut output = [0u8; SHORTEST_OUTPUT];
     match writer::write(listing, kind, &mut output) {
         Written::Segments(count) => {
             put_log(&output, count, log);
-            let length = (MARK + SEGMENT) * count;
+            let length = (MARK_BYTES + SEGMENT_BYTES) * count;
             Reply::Log(length)
         }
         Written::Refused(refusal) => Reply::Not(refusal),
@@ -176,9 +129,9 @@ fn answer_text(text: &[u8], kind: Kind, count: usize, listing: &mut [u8], log: &
     requires { ⌜ (kindBytes + 2 * count ≤ length (now text)) × (count ≤ length (now listing)) ⌝ }
     requires { ⌜ (hexFits count (drop kindBytes (now text)) ≡ true) × (longestLog ≤ length (now log)) ⌝ }
     ensures { λ r. ⌜ r ≡ replyFor (answerFor kind (hexSaid count (drop kindBytes (now (text .entry))))) ⌝ }
-    ensures { λ r. ⌜ now (log .exit) ≡ leftBy r kind (hexSaid count (drop kindBytes (now (text .entry)))) (now (log .entry)) ⌝ }
+    ensures { λ r. ⌜ now (log .exit) ≡ replyLog r kind (hexSaid count (drop kindBytes (now (text .entry)))) (now (log .entry)) ⌝ }
 {
-    put_hex(text, WORD, count, listing);
+    hex::take_hex(text, KIND_BYTES, count, listing);
     answer(kind, &listing[..count], log)
 }
 
@@ -186,13 +139,13 @@ fn answer_text(text: &[u8], kind: Kind, count: usize, listing: &mut [u8], log: &
 pub fn respond(text: &[u8], log: &mut [u8]) -> Reply
     ensures { λ r. ⌜ ReplySays (now (text .entry)) (now (log .entry)) r (now (log .exit)) ⌝ }
 {
-    if log.len() < LOG {
+    if log.len() < LONGEST_LOG {
         return Reply::NoRoom;
     }
-    if TEXT < text.len() {
+    if LONGEST_TEXT < text.len() {
         return Reply::TooLong;
     }
-    if text.len() < WORD {
+    if text.len() < KIND_BYTES {
         return Reply::Unclear;
     }
     let mut kind = Kind::This;
@@ -202,12 +155,12 @@ pub fn respond(text: &[u8], log: &mut [u8]) -> Reply
         }
         kind = Kind::Next;
     }
-    let digits = line_length(text) - WORD;
+    let digits = line_length(text) - KIND_BYTES;
     if digits % 2 != 0 {
         return Reply::Unclear;
     }
     let count = digits / 2;
-    if !hex_fits(text, WORD, count) {
+    if !hex::hex_fits(text, KIND_BYTES, count) {
         return Reply::Unclear;
     }
     let mut listing = [0u8; LISTING];

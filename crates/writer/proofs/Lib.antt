@@ -1,7 +1,4 @@
-pub mod Checks
-pub mod Puts
 pub mod Chunks
-pub mod Lengths
 pub mod Sent
 pub mod Answers
 pub mod Outputs

@@ -13,11 +13,11 @@ use Rattle.meaning.specs.Sizes.{longestChunk}
 use Rattle.meaning.specs.Lists.{currentOf}
 use Rattle.meaning.specs.Reading.{majorIn}
 use Rattle.segments.specs.Segment.{segmentBytes, payloadBytes, placeOf}
-use Rattle.segments.specs.Cut.{segmentsFor, Choice, Suits, headOf, pieceOf, upFrom, cut, joined}
+use Rattle.segments.specs.Cut.{segmentCount, Choice, Suits, headOf, pieceOf, upFrom, cut, joined}
 use Rattle.segments.proofs.Heads.{headFirst}
 use Rattle.segments.proofs.Cut.{piece-bytes, piece-read}
 use Rattle.segments.proofs.Places.{place-within}
-use Rattle.writer.specs.Put.{segmentPut, segmentsPut}
+use Rattle.segment_puts.specs.Laid.{segmentLaid, segmentsLaid}
 use Rattle.writer.specs.Writing.{shortestOutput, plainly}
 
 -- ---- stuffing
@@ -55,7 +55,7 @@ over-stuffing xs l i a b m e f room =
 pub plainly-suits : (xs : List ℕ) → Suits xs (plainly (length xs))
 plainly-suits xs =
     let n : ℕ = length xs in
-    let more : ℕ = payloadBytes * segmentsFor n - n in
+    let more : ℕ = payloadBytes * segmentCount n - n in
     record {
       reserved = λ i. omega arith;
       wake = λ i. omega arith;
@@ -65,7 +65,7 @@ plainly-suits xs =
 
 module _ (k : Kind) (xs before : List ℕ) (some : 0 < length xs) (room : length xs ≤ longestChunk) (space : shortestOutput ≤ length before) (bytes : Bytes xs) (major : majorIn xs ≡ 0) (kind : getD xs 1 0 % 2 ≡ currentOf k) where
   abbrev n : ℕ
-  n = segmentsFor (length xs)
+  n = segmentCount (length xs)
 
   abbrev c : Choice
   c = plainly (length xs)
@@ -82,22 +82,22 @@ module _ (k : Kind) (xs before : List ℕ) (some : 0 < length xs) (room : length
 
   put-whole : put ≡ whole ++ rest
   put-whole =
-      let at : ℕ = payloadBytes * (segmentsFor (length xs) - 1) in
-      let more : ℕ = payloadBytes * segmentsFor (length xs) - length xs in
+      let at : ℕ = payloadBytes * (segmentCount (length xs) - 1) in
+      let more : ℕ = payloadBytes * segmentCount (length xs) - length xs in
       over-stuffing xs before at (length xs - at) more payloadBytes (omega arith) (omega arith) (omega arith)
 
   place-put : (i : ℕ) → i < n → placeOf put i ≡ placeOf whole i
   place-put i h = ap (λ (t : List ℕ). placeOf t i) put-whole ∙ place-within whole rest i (omega (arith, plainly-suits xs .whole))
 
-  segment-put : (i : ℕ) → i < n → segmentPut k (n - 1) put i ≡ pieceOf xs c i
-  segment-put i h =
+  segment-laid : (i : ℕ) → i < n → segmentLaid k (n - 1) put i ≡ pieceOf xs c i
+  segment-laid i h =
       let first : 48 + currentOf k * 2 ≡ headFirst (headOf xs c i) = omega arith in
       (λ j. first j ∷ (i * 16 + (n - 1)) ∷ place-put i h j) ∙ sym (piece-bytes xs c bytes (plainly-suits xs) room i h)
 
-  segments-put : (i m : ℕ) → i + m ≤ n → segmentsPut k (n - 1) put i m ≡ joined (map (pieceOf xs c) (upFrom i m))
+  segments-laid : (i m : ℕ) → i + m ≤ n → segmentsLaid k (n - 1) put i m ≡ joined (map (pieceOf xs c) (upFrom i m))
   unfolding upFrom flatMap
-  segments-put i zero h = refl
-  segments-put i (suc m) h = ap₂ _++_ (segment-put i (omega arith)) (segments-put (suc i) m (omega arith))
+  segments-laid i zero h = refl
+  segments-laid i (suc m) h = ap₂ _++_ (segment-laid i (omega arith)) (segments-laid (suc i) m (omega arith))
 
   length-segments : (i m : ℕ) → i + m ≤ n → length (joined (map (pieceOf xs c) (upFrom i m))) ≡ segmentBytes * m
   unfolding upFrom flatMap
@@ -111,11 +111,11 @@ module _ (k : Kind) (xs before : List ℕ) (some : 0 < length xs) (room : length
   length-joined = length-segments 0 n (omega arith)
 
   -- all of them, over the output
-  pub cut-put : sets put 0 (segmentsPut k (n - 1) put 0 n) ≡ joined (cut xs c) ++ drop (segmentBytes * n) before
+  pub cut-put : sets put 0 (segmentsLaid k (n - 1) put 0 n) ≡ joined (cut xs c) ++ drop (segmentBytes * n) before
   cut-put =
       let all : List ℕ = joined (cut xs c) in
       let at : ℕ = payloadBytes * (n - 1) in
       let fill : List ℕ = sets before at (stuffing payloadBytes) in
-      ap (sets put 0) (segments-put 0 n (omega arith))
+      ap (sets put 0) (segments-laid 0 n (omega arith))
       ∙ drop-stored all put 0 (segmentBytes * n) (sym (zero-add (length all) ∙ length-joined)) (omega (arith, length-sets fill 0 xs, length-sets before at (stuffing payloadBytes)))
       ∙ ap (λ (t : List ℕ). all ++ t) (drop-sets xs fill 0 (segmentBytes * n) (omega arith) ∙ drop-sets (stuffing payloadBytes) before at (segmentBytes * n) (omega (arith, length-stuffing payloadBytes)))

@@ -5,25 +5,36 @@ use mathlib.Core.Bool.{not}
 use mathlib.Core.List.{List, _++_}
 use lib.Dec.{ltb}
 use lib.ListN.{length, drop, replicate}
+use Rattle.octets.specs.Checks.{check}
 use Rattle.meaning.specs.declared.Kind.{Kind}
-use Rattle.meaning.specs.declared.Refusal.the-variants.{ShortBuffer, BadListing, TooMany}
-use Rattle.meaning.specs.declared.Checked.{Checked}
-use Rattle.meaning.specs.declared.Checked.the-variants.{Fine, Fault}
 use Rattle.meaning.specs.Sizes.{longestChunk}
-use Rattle.meaning.specs.Numbers.{numberOf}
 use Rattle.meaning.specs.Lists.{FicList}
 use Rattle.meaning.specs.Layout.{wire}
-use Rattle.meaning.specs.Listed.{listingFits, listSaid}
+use Rattle.meaning.specs.Said.{listingFits, listSaid}
 use Rattle.meaning.specs.Plain.{plain, plainLength}
-use Rattle.meaning.specs.Reading.{check}
-use Rattle.segments.specs.Segment.{segmentBytes, payloadBytes}
-use Rattle.segments.specs.Cut.{segmentsFor, Choice, cut, joined}
+use Rattle.segments.specs.Segment.{segmentBytes, payloadBytes, mostSegments}
+use Rattle.segments.specs.Cut.{segmentCount, Choice, cut, joined}
+use Rattle.writer.specs.declared.Unwritten.{Unwritten}
+use Rattle.writer.specs.declared.Unwritten.the-variants.{ShortOutput, BadListing, TooMany}
 use Rattle.writer.specs.declared.Written.{Written}
 use Rattle.writer.specs.declared.Written.the-variants.{Segments, Refused}
 
 -- the shortest output: room for the 16 segments of the longest chunk
 abbrev pub shortestOutput : ℕ
-shortestOutput = 592
+shortestOutput = mostSegments * segmentBytes
+
+-- ---- the refusals
+
+-- the table "The numbers", those of the writer
+abbrev pub unwrittenNumber : Unwritten → ℕ
+unwrittenNumber ShortOutput = 1
+unwrittenNumber BadListing = 13
+unwrittenNumber TooMany = 14
+
+-- what the writer's checks find
+pub data WriteChecked : Type 0 where
+  Fine : WriteChecked
+  Fault : Unwritten → WriteChecked
 
 -- ---- an answer in document 01's numbers: its number, 0 where it is no refusal; how many segments, 0 where it is one
 
@@ -33,10 +44,10 @@ pub record WrittenValues : Type 0 where
 
 abbrev pub writtenValues : Written → WrittenValues
 writtenValues (Segments n) = record { number = 0; count = n }
-writtenValues (Refused f) = record { number = numberOf f; count = 0 }
+writtenValues (Refused f) = record { number = unwrittenNumber f; count = 0 }
 
 -- and whether it is a refusal, as checks say it
-abbrev pub writtenFault : Written → Checked
+abbrev pub writtenFault : Written → WriteChecked
 writtenFault (Segments n) = Fine
 writtenFault (Refused f) = Fault f
 
@@ -44,35 +55,35 @@ writtenFault (Refused f) = Fault f
 
 -- what the writer chooses for a chunk of n bytes: reserved bits ones, stuffing FF
 abbrev pub plainly : ℕ → Choice
-plainly n = record { reserved = λ i. 1; wake = λ i. 1; fill = replicate (payloadBytes * segmentsFor n - n) 0xFF }
+plainly n = record { reserved = λ i. 1; wake = λ i. 1; fill = replicate (payloadBytes * segmentCount n - n) 0xFF }
 
 -- the list as the oldest edition sends it, cut
-unfoldable pub segmentsOf : Kind → FicList → List (List ℕ)
-segmentsOf k l = cut (wire (plain k l)) (plainly (length (wire (plain k l))))
+unfoldable pub plainSegments : Kind → FicList → List (List ℕ)
+plainSegments k l = cut (wire (plain k l)) (plainly (length (wire (plain k l))))
 
 -- ---- the public call, on a listing xs, a kind and a lent output
 
-abbrev pub writeChecks : List ℕ → List ℕ → Checked
+abbrev pub writeChecks : List ℕ → List ℕ → WriteChecked
 writeChecks xs output =
-    check (ltb (length output) shortestOutput) ShortBuffer  -- 1
-    (check (not (listingFits xs)) BadListing  -- 13
-    (check (ltb longestChunk (plainLength (listSaid xs))) TooMany  -- 14
+    check (ltb (length output) shortestOutput) (Fault ShortOutput)  -- 1
+    (check (not (listingFits xs)) (Fault BadListing)  -- 13
+    (check (ltb longestChunk (plainLength (listSaid xs))) (Fault TooMany)  -- 14
     Fine))
 
-abbrev pub writtenFor : Checked → List ℕ → Kind → Written
-writtenFor Fine xs k = Segments (length (segmentsOf k (listSaid xs)))
+abbrev pub writtenFor : WriteChecked → List ℕ → Kind → Written
+writtenFor Fine xs k = Segments (length (plainSegments k (listSaid xs)))
 writtenFor (Fault f) xs k = Refused f
 
 unfoldable pub writeAnswer : List ℕ → Kind → List ℕ → Written
 writeAnswer xs k output = writtenFor (writeChecks xs output) xs k
 
 -- the segments at the start, bytes past them as they were; a refusal leaves all as it was
-abbrev pub leftBy : Written → List ℕ → Kind → List ℕ → List ℕ
-leftBy (Segments n) xs k output = joined (segmentsOf k (listSaid xs)) ++ drop (segmentBytes * n) output
-leftBy (Refused f) xs k output = output
+abbrev pub outputLeft : Written → List ℕ → Kind → List ℕ → List ℕ
+outputLeft (Segments n) xs k output = joined (plainSegments k (listSaid xs)) ++ drop (segmentBytes * n) output
+outputLeft (Refused f) xs k output = output
 
 unfoldable pub writeOutput : List ℕ → Kind → List ℕ → List ℕ
-writeOutput xs k output = leftBy (writeAnswer xs k output) xs k output
+writeOutput xs k output = outputLeft (writeAnswer xs k output) xs k output
 
 -- what the writer promises: of the listing xs, the kind and the output before, its answer, and the output after
 pub record WriteSays (xs : List ℕ) (k : Kind) (before : List ℕ) (answer : Written) (after : List ℕ) : Type 0 where

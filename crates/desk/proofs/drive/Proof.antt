@@ -6,14 +6,14 @@ use Rattle.meaning.specs.declared.Checked.the-variants.{Fine}
 use Rattle.segments.specs.Segment.{segmentChecks}
 use Rattle.slots.proofs.Keeps.{segment-passes}
 use Rattle.desk.specs.Desks.{desk}
-use Rattle.desk.proofs.Roles.{Ready}
+use Rattle.desk.proofs.Ready.{Ready}
 use Rattle.desk.proofs.Laws.{taken-refused, taken-steered}
 use borrow.Author.Needs.{needs}
 use Rattle.desk.proofs.drive.Statement.{statement}
 use Rattle.desk.proofs.drive.Tie as tie
 
 -- what is asked, and that the segment's own checks passed
-ready : (c : tie.After-check-segment) → let a = c .before .before .before .before .before .args in Ready (desk (a .marks) (now (a .bytes))) (now (a .first)) (now (a .second))
+ready : (c : tie.After-check-segment) → let a = c .before .before .before .before .before .args in Ready (desk (a .notes) (now (a .bytes))) (now (a .first)) (now (a .second))
 ready c = let p = c .before .before .before .before .before .pre in record { formed = p .0; left = p .1; right = p .2 }
 
 fine : (c : tie.After-enum-told) → segmentChecks (now (c .before .before .before .before .before .before .before .args .seg)) ≡ Fine

@@ -46,7 +46,7 @@ slot-fits-requires-2 : tie.Need-slot-fits-requires-2
 slot-fits-requires-2 c κs = search needs
 
 returns-4 : tie.Need-returns-4
-returns-4 c = c .slot-fits2 .ensures ∙ ap (slotFits (c .before .before .before .before .before .before .before .before .before .before .before .before .args .marks .next)) (part-to-end (now (c .before .before .before .before .before .before .before .before .before .before .before .before .args .bytes)) longestChunk) ∙ fit-next _ (sym (c .before .before .before .before .before .before .before .before .length-fits .ensures) ∙ not-false _ (c .before .before .before .before .before .before .before .if1 .left)) (sym (c .before .before .before .before .before .before .length-fits2 .ensures) ∙ not-false _ (c .before .before .before .before .before .if2 .left)) (sym (c .before .before .before .slot-fits .ensures) ∙ not-false _ (c .before .before .if3 .left))
+returns-4 c = c .slot-fits2 .ensures ∙ ap (slotFits (c .before .before .before .before .before .before .before .before .before .before .before .before .args .notes .next)) (part-to-end (now (c .before .before .before .before .before .before .before .before .before .before .before .before .args .bytes)) longestChunk) ∙ fit-next _ (sym (c .before .before .before .before .before .before .before .before .length-fits .ensures) ∙ not-false _ (c .before .before .before .before .before .before .before .if1 .left)) (sym (c .before .before .before .before .before .before .length-fits2 .ensures) ∙ not-false _ (c .before .before .before .before .before .if2 .left)) (sym (c .before .before .before .slot-fits .ensures) ∙ not-false _ (c .before .before .if3 .left))
 
 pub fits-spec : {M : Type 1} → statement M
 fits-spec =

@@ -28,12 +28,12 @@ part-gather-start : tie.Need-part-gather-start
 part-gather-start c = search needs
 
 part-gather-end : tie.Need-part-gather-end
-part-gather-end c = omega (arith, start-low (c .before .start-of .ensures), length-desk (desk (c .before .before .before .before .before .before .before .args .marks) (now (c .before .before .before .before .before .before .before .args .bytes))) (c .before .before .before .before .before .before .before .pre .0))
+part-gather-end c = omega (arith, start-low (c .before .start-of .ensures), length-desk (desk (c .before .before .before .before .before .before .before .args .notes) (now (c .before .before .before .before .before .before .before .args .bytes))) (c .before .before .before .before .before .before .before .pre .0))
 
 gather-requires : tie.Need-gather-requires
 gather-requires c κs =
     let s = c .before .before .before .before .before .before .before .before .before .before in
-    let d : Desk = desk (s .args .marks) (now (s .args .bytes)) in
+    let d : Desk = desk (s .args .notes) (now (s .args .bytes)) in
     rw (c .before .before .before .before .before .own .ensures, part-own (s .args .kind) d (s .pre .0) (c .before .before .before .before .start-of .result) (c .before .before .before .before .start-of .ensures) .0) (kind-fits (s .args .kind) d (s .pre .0) .1, s .pre .1, s .pre .2, s .pre .3)
 
 with-slot-requires : tie.Need-with-slot-requires
@@ -51,7 +51,7 @@ same-length-3 c = search needs
 returns : tie.Need-returns
 returns c =
     let s = c .before .before .before .before .before .before .before .before .before .before .before .before .before .before .before .before .before .before .before in
-    let d : Desk = desk (s .args .marks) (now (s .args .bytes)) in
+    let d : Desk = desk (s .args .notes) (now (s .args .bytes)) in
     let p = part-own (s .args .kind) d (s .pre .0) (c .before .before .before .before .before .before .before .before .before .before .before .before .before .start-of .result) (c .before .before .before .before .before .before .before .before .before .before .before .before .before .start-of .ensures) in
     steered (s .args .kind) d (now (s .args .seg)) (now (s .args .first)) (now (s .args .second)) _ _ (c .before .before .before .before .before .before .before .before .before .before .before .before .before .before .own .ensures) (p .0) (c .before .before .before .before .before .before .before .before .before .before .before .before .first-serves .ensures) (c .before .before .before .before .before .before .before .before .gather .ensures .0) (c .before .before .before .before .before .before .before .before .gather .ensures .1) (c .with-slot .ensures) (p .1 _)
 

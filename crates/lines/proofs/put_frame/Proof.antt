@@ -1,8 +1,11 @@
 -- `lines::put_frame` meets its contract: each branch puts the words of its case, and the second then the listing. Assumes nothing.
+use native.Mathlib.Omega.{arith}
 use borrow.Author.Needs.{needs}
 use denote.Ref.{now}
-use Rattle.lines.specs.Text.{textFR, listed}
-use Rattle.lines.proofs.Text.{put-same, put-after, frame-none, frame-some}
+use Rattle.text.specs.Text.{text}
+use Rattle.text.proofs.Laws.{put-same, put-both}
+use Rattle.lines.specs.Lines.{listingLines}
+use Rattle.lines.proofs.Laws.{length-listing, frame-none, frame-some}
 use Rattle.lines.proofs.put_frame.Statement.{statement}
 use Rattle.lines.proofs.put_frame.Tie as tie
 
@@ -27,7 +30,7 @@ put-text-requires-2 : tie.Need-put-text-requires-2
 put-text-requires-2 c κs = search needs
 
 put-listing-requires : tie.Need-put-listing-requires
-put-listing-requires c κs = search needs
+put-listing-requires c κs = let p = c .before .before .before .before .before .before .before .before .before .pre in (p .0, omega (arith, length-listing (now (c .before .before .before .before .before .before .before .before .before .args .listing)) (p .0), c .before .before .before .put-text2 .ensures .0))
 
 same-length-2 : tie.Need-same-length-2
 same-length-2 c = search needs
@@ -36,7 +39,7 @@ returns-2 : tie.Need-returns-2
 returns-2 c =
     let a = c .before .before .before .before .before .before .before .before .before .before .before .before .args in
     let l = now (a .listing) in
-    put-same (now (a .out)) (a .to) (frame-some l (c .before .before .before .before .before .before .before .before .before .if1 .left)) (put-after textFR (listed l) (now (a .out)) (a .to) (c .before .before .before .before .before .before .put-text2 .ensures) (c .before .before .put-listing .ensures))
+    put-same (now (a .out)) (a .to) (frame-some l (c .before .before .before .before .before .before .before .before .before .if1 .left)) (put-both (text "FR ") (listingLines l) (now (a .out)) (a .to) (c .before .before .before .before .before .before .put-text2 .ensures) (c .before .before .put-listing .ensures))
 
 pub put-frame-spec : {M : Type 1} → statement M
 put-frame-spec =

@@ -4,8 +4,8 @@ use mathlib.Core.Path.{sym, ap}
 use denote.Ref.{now}
 use Rattle.meaning.specs.declared.Kind.{Kind}
 use lib.ListN.{length}
-use Rattle.lines.specs.Text.{kindText}
-use Rattle.lines.proofs.Text.{put-same}
+use Rattle.lines.specs.Lines.{kindText}
+use Rattle.text.proofs.Laws.{put-same}
 use borrow.Author.Needs.{needs}
 use Rattle.lines.proofs.put_kind.Statement.{statement}
 use Rattle.lines.proofs.put_kind.Tie as tie

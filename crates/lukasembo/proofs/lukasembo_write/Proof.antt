@@ -2,7 +2,7 @@
 use mathlib.Core.Path.{sym, ap, _∙_}
 use denote.Ref.{now}
 use Rattle.octets.proofs.Laws.{bytes-all}
-use Rattle.lukasembo.specs.Told.{writeTold}
+use Rattle.lukasembo.specs.Packed.{packedWritten}
 use Rattle.lukasembo.proofs.Laws.{segments-few}
 use native.Mathlib.Omega.{arith}
 use borrow.Author.Needs.{needs}
@@ -15,8 +15,8 @@ kind-of-requires c κs = search needs
 write-requires : tie.Need-write-requires
 write-requires c κs = search needs
 
-write-told-requires : tie.Need-write-told-requires
-write-told-requires c κs =
+pack-written-requires : tie.Need-pack-written-requires
+pack-written-requires c κs =
     let known = c .before .before .before .before .before .before in
     let bytes = bytes-all (now (known .before .args .listing)) (λ i. omega (arith, known .shared-slice-known .given i)) in
     rw (c .before .before .write .ensures .answers) (segments-few _ _ _ bytes)
@@ -28,8 +28,8 @@ returns : tie.Need-returns
 returns c =
     let w = c .before .before .before .write in
     rw (sym (c .before .before .before .before .before .kind-of .ensures))
-    (c .write-told .ensures ∙ ap writeTold (w .ensures .answers), w .ensures .leaves)
+    (c .pack-written .ensures ∙ ap packedWritten (w .ensures .answers), w .ensures .leaves)
 
 pub lukasembo-write-spec : {M : Type 1} → statement M
 lukasembo-write-spec =
-    tie.close (tie.spec kind-of-requires write-requires write-told-requires same-length returns)
+    tie.close (tie.spec kind-of-requires write-requires pack-written-requires same-length returns)

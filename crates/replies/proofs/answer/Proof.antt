@@ -38,8 +38,8 @@ slice-aggregate-write-all-2 c = search needs
 write-all-requires-2 : tie.Need-write-all-requires-2
 write-all-requires-2 c κs = search needs
 
-number-of-requires : tie.Need-number-of-requires
-number-of-requires c κs = search needs
+unwritten-number-requires : tie.Need-unwritten-number-requires
+unwritten-number-requires c κs = search needs
 
 cast-print-decimal : tie.Need-cast-print-decimal
 cast-print-decimal c = search needs
@@ -108,7 +108,7 @@ answer-spec =
     enum-known-refusal
     slice-aggregate-write-all-2
     write-all-requires-2
-    number-of-requires
+    unwritten-number-requires
     cast-print-decimal
     print-decimal-requires
     slice-aggregate-write-all-3

@@ -1,7 +1,7 @@
 -- `stream::print` meets its contract: a fresh desk is well formed, and the output holds the longest lines. Assumes nothing.
 use mathlib.Core.Path.{ap, _∙_}
 use Rattle.desk.specs.Desks.{wellFormed}
-use Rattle.desk.proofs.Keeps.{fresh-fits}
+use Rattle.effects.proofs.Keeps.{fresh-fits}
 use native.Mathlib.Omega.{arith}
 use borrow.Author.Needs.{needs}
 use Rattle.stream.proofs.print.Statement.{statement}

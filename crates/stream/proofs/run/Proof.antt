@@ -6,10 +6,13 @@ use denote.Ref.{now}
 use Prim.Native.Nat.{ℕ, _+_, _-_, _≤_}
 use lib.ListN.{length}
 use Rattle.desk.specs.Desks.{desk}
-use Rattle.lines.specs.Log.{state, Ready, entryIn, wholeRecord}
-use Rattle.stream.specs.Moving.{mostTurns, unread}
-use Rattle.stream.specs.declared.Unread.{Unread}
-use Rattle.stream.proofs.Laws.{Keeps, turn-keeps}
+use Rattle.desk.specs.Calls.{state, Ready}
+use Rattle.records.specs.Records.{entryIn, isWhole}
+use Rattle.blocks.specs.declared.Unread.{Unread}
+use Rattle.blocks.specs.Blocks.{mostTurns, unread}
+use Rattle.blocks.proofs.Laws.{Keeps, turn-keeps}
+use Rattle.replay.specs.Log.{logForm, logProgram}
+use Rattle.replay.proofs.Log.{next-ready}
 use borrow.Author.Needs.{needs}
 use native.Mathlib.Omega.{arith}
 use Rattle.stream.proofs.run.Statement.{statement}
@@ -44,11 +47,11 @@ module _ (c : tie.After-turn Inv-loop μ-loop) where
   abbrev u : Unread
   u = c .turn .result .unread
 
-  keeps : Keeps (state (desk (c .turn .result .marks) (c .turn .last .1 .0)) (c .turn .last .1 .1 .0) (c .turn .last .1 .1 .1 .0)) block (c .turn .result .failed) u
+  keeps : Keeps Ready logForm (state (desk (c .turn .result .notes) (c .turn .last .1 .0)) (c .turn .last .1 .1 .0) (c .turn .last .1 .1 .1 .0)) block (c .turn .result .failed) u
   keeps =
-      turn-keeps (length (h .loop .out)) (state (desk (h .loop .m) (h .loop .bytes)) (h .loop .first) (h .loop .second)) (h .loop .block) (h .loop .at) (h .loop .have) _ _ _ _ _ _ u (c .turn .ensures) (h .loop .inv .0) (h .loop .inv .1) (h .loop .inv .2)
+      turn-keeps logProgram Ready next-ready (length (h .loop .out)) (state (desk (h .loop .m) (h .loop .bytes)) (h .loop .first) (h .loop .second)) (h .loop .block) (h .loop .at) (h .loop .have) _ _ _ _ _ _ u (c .turn .ensures) (h .loop .inv .0) (h .loop .inv .1) (h .loop .inv .2)
 
-  after : Inv-loop (now (s .args .bytes)) (now (s .args .first)) (now (s .args .second)) (now (s .args .block)) (now (s .args .out)) 0 0 (s .args .marks) 0 0 0 (c .turn .last .1 .0) (c .turn .last .1 .1 .0) (c .turn .last .1 .1 .1 .0) block (c .turn .last .1 .1 .1 .1 .1 .1 .1 .0) (c .turn .result .marks) (u .at) (u .have) (h .loop .turns + 1)
+  after : Inv-loop (now (s .args .bytes)) (now (s .args .first)) (now (s .args .second)) (now (s .args .block)) (now (s .args .out)) 0 0 (s .args .notes) 0 0 0 (c .turn .last .1 .0) (c .turn .last .1 .1 .0) (c .turn .last .1 .1 .1 .0) block (c .turn .last .1 .1 .1 .1 .1 .1 .1 .0) (c .turn .result .notes) (u .at) (u .have) (h .loop .turns + 1)
   after = (
     keeps .ready,
     keeps .ahead,
@@ -69,7 +72,7 @@ module _ (c : tie.Then2 Inv-loop μ-loop) where
   abbrev t : tie.After-turn Inv-loop μ-loop
   t = went (c .before .before)
 
-  stops : wholeRecord (entryIn (unread (block t) (u t .at) (u t .have))) ≡ false
+  stops : isWhole (entryIn logForm (unread (block t) (u t .at) (u t .have))) ≡ false
   stops = keeps t .over (c .before .if1 .left) (c .if2 .taken)
 
 abbrev last : tie.After-print-last Inv-loop μ-loop → tie.After-turn Inv-loop μ-loop
@@ -108,7 +111,7 @@ returns c = rw (c .end-as .ensures .0) tt
 print-last-requires : tie.Need-print-last-requires Inv-loop μ-loop
 print-last-requires c κs =
     let e = c .before .before in
-    ((keeps (t e) .ahead, keeps (t e) .inside, omega (arith, after (t e) .8, s (t e) .pre .1 .0)), stops e)
+    (keeps (t e) .ahead, keeps (t e) .inside, omega (arith, after (t e) .8, s (t e) .pre .1 .0))
 
 end-as-requires-2 : tie.Need-end-as-requires-2 Inv-loop μ-loop
 end-as-requires-2 c κs = search needs

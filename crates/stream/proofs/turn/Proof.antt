@@ -1,4 +1,4 @@
--- `stream::turn` meets its contract: what `lines::fill` put out is written, and `advance` goes on behind it. Assumes nothing.
+-- `stream::turn` meets its contract: what `replay::fill` put out is written, and `advance` goes on behind it. Assumes nothing.
 use mathlib.Core.Path.{sym}
 use mathlib.Core.List.{List}
 use Prim.Native.Nat.{ℕ, _+_, _≤_}
@@ -6,9 +6,11 @@ use denote.Ref.{now}
 use lib.ListN.{length}
 use lib.Seq.{length-take-le}
 use Rattle.desk.specs.Desks.{desk}
-use Rattle.lines.specs.Log.{State, state}
-use Rattle.stream.specs.Moving.{unread}
-use Rattle.stream.proofs.Laws.{stays, unread-length, filled-before, filled-inside, turn-lost, turn-passed}
+use Rattle.desk.specs.Calls.{State, state}
+use Rattle.blocks.specs.Blocks.{unread}
+use Rattle.blocks.proofs.Laws.{stays, unread-length, filled-before, filled-inside, turn-lost, turn-passed}
+use Rattle.replay.specs.Log.{logProgram}
+use Rattle.replay.proofs.Log.{lines-fit}
 use native.Mathlib.Omega.{arith}
 use borrow.Author.Needs.{needs}
 use Rattle.stream.proofs.turn.Statement.{statement}
@@ -20,10 +22,10 @@ module _ (c : tie.After-fill) where
   s = c .before .before .before .before .before .before .before .before .before .before .before .before
 
   abbrev from : State
-  from = state (desk (s .args .marks) (now (s .args .bytes))) (now (s .args .first)) (now (s .args .second))
+  from = state (desk (s .args .notes) (now (s .args .bytes))) (now (s .args .first)) (now (s .args .second))
 
   abbrev after : State
-  after = state (desk (c .fill .result .marks) (c .fill .last .1 .0)) (c .fill .last .1 .1 .0) (c .fill .last .1 .1 .1 .0)
+  after = state (desk (c .fill .result .notes) (c .fill .last .1 .0)) (c .fill .last .1 .1 .0) (c .fill .last .1 .1 .1 .0)
 
   abbrev block : List ℕ
   block = now (s .args .block)
@@ -32,10 +34,10 @@ module _ (c : tie.After-fill) where
   xs = unread block (s .args .at) (s .args .have)
 
   inside : c .fill .result .wrote ≤ length (c .fill .last .1 .1 .1 .1 .1 .0)
-  inside = filled-inside from after xs (now (s .args .out)) _ _ _ (c .fill .ensures)
+  inside = filled-inside logProgram from after xs (now (s .args .out)) _ _ _ (c .fill .ensures) lines-fit
 
   most : s .args .at + c .fill .result .read ≤ s .args .have
-  most = filled-before from after xs (now (s .args .out)) _ _ _ (c .fill .ensures) (s .args .at) (s .args .have) (unread-length block _ _ (s .pre .1 .0) (s .pre .1 .1)) (s .pre .1 .0)
+  most = filled-before logProgram from after xs (now (s .args .out)) _ _ _ (c .fill .ensures) (s .args .at) (s .args .have) (unread-length block _ _ (s .pre .1 .0) (s .pre .1 .1)) (s .pre .1 .0)
 
 abbrev done : tie.After-after → tie.After-fill
 done c = c .before .before .before .before .before .before .before .before .before
@@ -82,7 +84,7 @@ same-length-5 c = search needs
 returns : tie.Need-returns
 returns c =
     let k = done (c .before .before .before .before) in
-    turn-lost (from k) (after k) (xs k) (now (s k .args .out)) _ _ _ (k .fill .ensures) (block k) (s k .args .at) (s k .args .have) _ (c .stay .result) (stays _ _ _ _ _ (c .stay .ensures))
+    turn-lost logProgram (from k) (after k) (xs k) (now (s k .args .out)) _ _ _ (k .fill .ensures) (block k) (s k .args .at) (s k .args .have) _ (c .stay .result) (stays _ _ _ _ _ (c .stay .ensures))
 
 add-advance : tie.Need-add-advance
 add-advance c = let k = done (c .before .before .before .before) in omega (arith, most k, s k .fits .have)
@@ -108,7 +110,7 @@ same-length-10 c = search needs
 returns-2 : tie.Need-returns-2
 returns-2 c =
     let k = done (c .before .before .before .before .before .before .before) in
-    turn-passed (from k) (after k) (xs k) (now (s k .args .out)) _ _ _ (k .fill .ensures) (block k) (s k .args .at) (s k .args .have) _ _ (c .before .before .advance .ensures)
+    turn-passed logProgram (from k) (after k) (xs k) (now (s k .args .out)) _ _ _ (k .fill .ensures) (block k) (s k .args .at) (s k .args .have) _ _ (c .before .before .advance .ensures)
 
 pub turn-spec : {M : Type 1} → statement M
 turn-spec =

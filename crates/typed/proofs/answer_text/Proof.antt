@@ -4,14 +4,14 @@ use mathlib.Core.Path.{sym, ap, _∙_}
 use mathlib.Core.List.{List}
 use lib.ListN.{length, drop}
 use denote.Ref.{now}
-use Rattle.typed.specs.Typed.{kindBytes, answerFor, replyFor, leftBy}
-use Rattle.typed.proofs.Texts.{length-hexSaid, take-hex}
+use Rattle.typed.specs.Typed.{kindBytes, answerFor, replyFor, replyLog}
+use Rattle.hex.proofs.Read.{length-hexSaid, take-hexSaid}
 use borrow.Author.Needs.{needs}
 use Rattle.typed.proofs.answer_text.Statement.{statement}
 use Rattle.typed.proofs.answer_text.Tie as tie
 
-put-hex-requires : tie.Need-put-hex-requires
-put-hex-requires c κs = search needs
+take-hex-requires : tie.Need-take-hex-requires
+take-hex-requires c κs = search needs
 
 slice-reshare-prefix-answer : tie.Need-slice-reshare-prefix-answer
 slice-reshare-prefix-answer c = search needs
@@ -20,7 +20,7 @@ slice-aggregate-answer : tie.Need-slice-aggregate-answer
 slice-aggregate-answer c =
     let s = c .before .before .before .before .before .before .before .before in
     let ys = drop kindBytes (now (s .args .text)) in
-    sym (ap length (take-hex (s .args .count) ys (now (s .args .listing)) _ (s .pre .0 .1) (c .before .before .before .put-hex .ensures)) ∙ length-hexSaid (s .args .count) ys)
+    sym (ap length (take-hexSaid (s .args .count) ys (now (s .args .listing)) _ (s .pre .0 .1) (c .before .before .before .take-hex .ensures)) ∙ length-hexSaid (s .args .count) ys)
 
 answer-requires : tie.Need-answer-requires
 answer-requires c κs = search needs
@@ -36,14 +36,14 @@ returns c =
     let a = c .before .before .before .before .before .before .before .before .before .before .before .before .args in
     let r = c .before .before .answer .result in
     let e = c .before .before .answer .ensures in
-    let said = take-hex (a .count) (drop kindBytes (now (a .text))) (now (a .listing)) _ (c .before .before .before .before .before .before .before .before .before .before .before .before .pre .0 .1) (c .before .before .before .before .before .before .before .put-hex .ensures) in
-    (e .0 ∙ ap (λ (xs : List ℕ). replyFor (answerFor (a .kind) xs)) said, e .1 ∙ ap (λ (xs : List ℕ). leftBy r (a .kind) xs (now (a .log))) said)
+    let said = take-hexSaid (a .count) (drop kindBytes (now (a .text))) (now (a .listing)) _ (c .before .before .before .before .before .before .before .before .before .before .before .before .pre .0 .1) (c .before .before .before .before .before .before .before .take-hex .ensures) in
+    (e .0 ∙ ap (λ (xs : List ℕ). replyFor (answerFor (a .kind) xs)) said, e .1 ∙ ap (λ (xs : List ℕ). replyLog r (a .kind) xs (now (a .log))) said)
 
 pub answer-text-spec : {M : Type 1} → statement M
 answer-text-spec =
     tie.close
     (tie.spec
-    put-hex-requires
+    take-hex-requires
     slice-reshare-prefix-answer
     slice-aggregate-answer
     answer-requires

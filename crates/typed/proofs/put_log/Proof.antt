@@ -5,9 +5,9 @@ use mathlib.Core.Path.{_≡_, refl, sym, ap, _∙_}
 use lib.ListN.{length, drop}
 use lib.Seq.{sets}
 use denote.Ref.{now}
-use Rattle.meaning.specs.Sizes.{markBytes}
+use Rattle.records.specs.Records.{markBytes}
 use Rattle.segments.specs.Segment.{segmentBytes}
-use Rattle.typed.specs.Put.{logPut}
+use Rattle.typed.specs.Typed.{logPut}
 use Rattle.typed.proofs.Logs.{log-next, log-none}
 use borrow.Author.Needs.{needs}
 use native.Mathlib.Omega.{arith}

@@ -1,14 +1,14 @@
 -- `typed::put_record` meets its contract: its two stores are the mark. The loop's invariant: what is left of the segment, put here, makes the
 -- whole; the measure is what is left. Assumes nothing.
+use Prim.Native.Char.{code}
 use Prim.Native.Nat.{ℕ, _+_, _-_, _≤_}
 use mathlib.Core.Path.{_≡_, refl, sym, ap, _∙_}
 use native.Mathlib.Nat.{add-zero}
-use lib.ListN.{length, getD, drop, set, length-set}
+use lib.ListN.{length, drop, set, length-set}
 use lib.Seq.{sets}
 use denote.Ref.{now}
-use Rattle.meaning.specs.Sizes.{markBytes}
+use Rattle.records.specs.Records.{markBytes}
 use Rattle.segments.specs.Segment.{segmentBytes}
-use Rattle.typed.specs.Typed.{markSG}
 use Rattle.typed.proofs.Logs.{segmentAt, record-stored, segment-next, segment-done}
 use native.Mathlib.Omega.{arith}
 use Rattle.typed.proofs.put_record.Statement.{statement}
@@ -42,7 +42,7 @@ loop-holds c =
       omega arith,
       simp length-set (omega arith),
       refl,
-      ap (λ (k : ℕ). sets (set (set (now (a .log)) (a .to) (getD markSG 0 0)) (a .to + 1) (getD markSG 1 0)) k (segmentAt (now (a .segments)) (a .from))) (add-zero (a .to + markBytes)),
+      ap (λ (k : ℕ). sets (set (set (now (a .log)) (a .to) (code "S")) (a .to + 1) (code "G")) k (segmentAt (now (a .segments)) (a .from))) (add-zero (a .to + markBytes)),
     )
 
 add-log-2 : tie.Need-add-log-2 Inv-loop μ-loop

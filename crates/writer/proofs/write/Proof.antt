@@ -6,11 +6,11 @@ use denote.Ref.{now}
 use Rattle.octets.specs.Bits.{Bytes}
 use Rattle.octets.proofs.Laws.{bytes-all}
 use Rattle.meaning.specs.Sizes.{longestChunk}
-use Rattle.meaning.specs.Listed.{listingFits, listSaid}
+use Rattle.meaning.specs.Said.{listingFits, listSaid}
 use Rattle.meaning.specs.Plain.{plainLength}
-use Rattle.segments.specs.Cut.{segmentsFor}
-use Rattle.writer.proofs.Chunks.{length-put}
-use Rattle.writer.proofs.Lengths.{length-none, length-some}
+use Rattle.segments.specs.Cut.{segmentCount}
+use Rattle.writer.proofs.Chunks.{length-laid}
+use Rattle.listing_checks.proofs.Lengths.{length-none, length-some}
 use Rattle.writer.proofs.Answers.{checks-short, checks-bad, checks-many, says-refused}
 use Rattle.writer.proofs.Outputs.{written-says}
 use native.Mathlib.Omega.{arith}
@@ -66,7 +66,7 @@ put-chunk-requires c κs =
     let e = c .before .before .before .before .before in
     let a = e .before .before .before .before .before .before .args in
     let k = known (e .before) in
-    (k .0, omega (arith, length-put (a .kind) (now (a .listing)) (bytes e) (k .0), k .1, e .if3 .left, c .before .before .before .put-payload .kept .1 .0, e .before .before .before .if1 .left))
+    (k .0, omega (arith, length-laid (a .kind) (now (a .listing)) (bytes e) (k .0), k .1, e .if3 .left, c .before .before .before .put-payload .kept .1 .0, e .before .before .before .if1 .left))
 
 sub-move-segments : tie.Need-sub-move-segments
 sub-move-segments c = search needs
@@ -86,7 +86,7 @@ returns-4 c =
     let a = e .before .before .before .before .before .before .args in
     let k = known (e .before) in
     written-says (a .kind) (now (a .listing)) (now (a .out)) (bytes e) (e .before .before .before .if1 .left) (k .0) (subst (λ (m : ℕ). m ≤ longestChunk) (k .1) (e .if3 .left)) _ _ _ _
-    (ap segmentsFor (k .1))
+    (ap segmentCount (k .1))
     (c .before .before .before .before .before .before .before .before .before .before .put-payload .ensures)
     (c .before .before .before .before .before .before .put-chunk .ensures)
     (c .before .before .move-segments .ensures)

@@ -1,7 +1,7 @@
 -- `desk::Desk::new_frame` meets its contract: fresh, or the frame's numbers and no bytes. Assumes nothing.
 use mathlib.Core.Path.{sym, _∙_}
 use borrow.Author.Tests.{not-true, not-false}
-use Rattle.desk.proofs.Laws.{frame-unfit, frame-fit}
+use Rattle.desk.proofs.Laws.{frame-bad, frame-fit}
 use borrow.Author.Needs.{needs}
 use Rattle.desk.proofs.Desk.new_frame.Statement.{statement}
 use Rattle.desk.proofs.Desk.new_frame.Tie as tie
@@ -13,7 +13,7 @@ fresh-requires : tie.Need-fresh-requires
 fresh-requires c κs = search needs
 
 returns : tie.Need-returns
-returns c = c .fresh .ensures ∙ frame-unfit _ (sym (c .before .before .well-formed .ensures) ∙ not-true _ (c .before .if1 .taken))
+returns c = c .fresh .ensures ∙ sym (frame-bad _ (sym (c .before .before .well-formed .ensures) ∙ not-true _ (c .before .if1 .taken)))
 
 frame-requires : tie.Need-frame-requires
 frame-requires c κs = search needs

@@ -1,7 +1,7 @@
 -- `desk::Desk::new_gathering` meets its contract: fresh, or the gathering's numbers and no bytes. Assumes nothing.
 use mathlib.Core.Path.{sym, _∙_}
 use borrow.Author.Tests.{not-true, not-false}
-use Rattle.desk.proofs.Laws.{gathering-unfit, gathering-fit}
+use Rattle.desk.proofs.Laws.{gathering-bad, gathering-fit}
 use borrow.Author.Needs.{needs}
 use Rattle.desk.proofs.Desk.new_gathering.Statement.{statement}
 use Rattle.desk.proofs.Desk.new_gathering.Tie as tie
@@ -13,7 +13,7 @@ fresh-requires : tie.Need-fresh-requires
 fresh-requires c κs = search needs
 
 returns : tie.Need-returns
-returns c = c .fresh .ensures ∙ gathering-unfit _ (sym (c .before .before .well-formed .ensures) ∙ not-true _ (c .before .if1 .taken))
+returns c = c .fresh .ensures ∙ sym (gathering-bad _ (sym (c .before .before .well-formed .ensures) ∙ not-true _ (c .before .if1 .taken)))
 
 gathering-requires : tie.Need-gathering-requires
 gathering-requires c κs = search needs

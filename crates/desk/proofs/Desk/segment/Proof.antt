@@ -4,7 +4,7 @@ use mathlib.Core.Bool.{true}
 use borrow.Author.Tests.{not-true, not-false}
 use denote.Ref.{now}
 use Rattle.desk.specs.Desks.{wellFormed}
-use Rattle.desk.proofs.Roles.{long-ready}
+use Rattle.desk.proofs.Ready.{long-ready}
 use Rattle.desk.proofs.Laws.{opposite, taken-unfit, taken-short}
 use borrow.Author.Needs.{needs}
 use Rattle.desk.proofs.Desk.segment.Statement.{statement}

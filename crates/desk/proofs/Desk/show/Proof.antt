@@ -1,8 +1,7 @@
 -- `desk::Desk::show` meets its contract: so much of the buffer that serves. Assumes nothing.
 use native.Mathlib.Omega.{arith}
 use denote.Ref.{now}
-use Rattle.desk.proofs.Frames.{shown-fits}
-use Rattle.desk.proofs.Laws.{shown-is}
+use Rattle.desk.proofs.Laws.{shown-fits, shown-is}
 use borrow.Author.Needs.{needs}
 use Rattle.desk.proofs.Desk.show.Statement.{statement}
 use Rattle.desk.proofs.Desk.show.Tie as tie

@@ -1,0 +1,9 @@
+pub mod Parts
+pub mod Ways
+pub mod Keeps
+pub mod Frames
+pub mod Apart
+pub mod Reserved
+pub mod Refusals
+pub mod Accepted
+pub mod Calls

@@ -1,0 +1,4 @@
+pub mod Tables
+pub mod Written
+pub mod Read
+pub mod Samples

@@ -1,0 +1,67 @@
+-- `listing_checks::service_fits` meets its contract, test by test. Assumes nothing.
+use mathlib.Core.Bool.{_&&_}
+use mathlib.Core.Path.{refl, sym, ap₂, _∙_}
+use native.Mathlib.Omega.{arith}
+use borrow.Author.Tests.{not-true, not-false, le-leb, lt-leb}
+use denote.Ref.{now}
+use Rattle.listing_checks.proofs.Checks.{sv-tests}
+use borrow.Author.Needs.{needs}
+use Rattle.listing_checks.proofs.service_fits.Statement.{statement}
+use Rattle.listing_checks.proofs.service_fits.Tie as tie
+
+marked-requires : tie.Need-marked-requires
+marked-requires c κs = omega (arith, c .before .pre)
+
+returns : tie.Need-returns
+returns c =
+    let s = c .before .before .before in
+    sym (sv-tests (now (s .args .listing)) (s .args .at) (s .pre) ∙ ap₂ _&&_ (sym (c .before .marked .ensures) ∙ not-true _ (c .if1 .taken)) refl)
+
+add-if2 : tie.Need-add-if2
+add-if2 c = search needs
+
+shared-slice-read-if2 : tie.Need-shared-slice-read-if2
+shared-slice-read-if2 c = search needs
+
+returns-2 : tie.Need-returns-2
+returns-2 c =
+    let s = c .before .before .before .before .before in
+    sym (sv-tests (now (s .args .listing)) (s .args .at) (s .pre) ∙ ap₂ _&&_ (sym (c .before .before .before .marked .ensures) ∙ not-false _ (c .before .before .if1 .left)) (ap₂ _&&_ (lt-leb _ _ (c .if2 .taken)) refl))
+
+add-if3 : tie.Need-add-if3
+add-if3 c = search needs
+
+shared-slice-read-if3 : tie.Need-shared-slice-read-if3
+shared-slice-read-if3 c = search needs
+
+returns-3 : tie.Need-returns-3
+returns-3 c =
+    let s = c .before .before .before .before .before .before .before in
+    sym (sv-tests (now (s .args .listing)) (s .args .at) (s .pre) ∙ ap₂ _&&_ (sym (c .before .before .before .before .before .marked .ensures) ∙ not-false _ (c .before .before .before .before .if1 .left)) (ap₂ _&&_ (le-leb _ _ (c .before .before .if2 .left)) (ap₂ _&&_ (lt-leb _ _ (c .if3 .taken)) refl)))
+
+add-result : tie.Need-add-result
+add-result c = search needs
+
+shared-slice-read-result : tie.Need-shared-slice-read-result
+shared-slice-read-result c = search needs
+
+returns-4 : tie.Need-returns-4
+returns-4 c =
+    let s = c .before .before .before .before .before .before .before .before in
+    sym (sv-tests (now (s .args .listing)) (s .args .at) (s .pre) ∙ ap₂ _&&_ (sym (c .before .before .before .before .before .before .marked .ensures) ∙ not-false _ (c .before .before .before .before .before .if1 .left)) (ap₂ _&&_ (le-leb _ _ (c .before .before .before .if2 .left)) (ap₂ _&&_ (le-leb _ _ (c .before .if3 .left)) refl)))
+
+pub service-fits-spec : {M : Type 1} → statement M
+service-fits-spec =
+    tie.close
+    (tie.spec
+    marked-requires
+    returns
+    add-if2
+    shared-slice-read-if2
+    returns-2
+    add-if3
+    shared-slice-read-if3
+    returns-3
+    add-result
+    shared-slice-read-result
+    returns-4)

@@ -1,0 +1,132 @@
+// The reader's writing: the listing of a chunk that the checks passed.
+use meaning::CHUNK_HEADER_BYTES;
+use meaning::Checked;
+use meaning::EN_BYTES;
+use meaning::ENSEMBLE_BYTES;
+use meaning::SERVICE_BYTES;
+use meaning::SV_BYTES;
+use meaning::TS_BYTES;
+ghost use mathlib.Core.Path.{_≡_};
+ghost use mathlib.Core.List.{flatMap};
+ghost use Prim.Native.Nat.{_+_, _*_, _≤_, _<_};
+ghost use lib.ListN.{length, drop};
+ghost use lib.Seq.{sets};
+ghost use Rattle.meaning.specs.Sizes.{longestChunk, longestListing, ensembleBytes, serviceBytes, enBytes, svBytes};
+ghost use Rattle.meaning.specs.Listing.{svRecord, ensembleListing, listing};
+ghost use Rattle.meaning.specs.Reading.{checks, ensemblesChecks, serviceAt, servicesAt, ensembleAt, ensemblesAt, servicesIn, servicesRoom, listIn};
+
+// The record of the service at a place of the chunk, put at a place of the output.
+fn write_service(chunk: &[u8], at: usize, out: &mut [u8], to: usize)
+    requires { ⌜ (at + serviceBytes ≤ length (now chunk)) × (to + svBytes ≤ length (now out)) ⌝ }
+    ensures { λ _. ⌜ now (out .exit) ≡ sets (now (out .entry)) to (svRecord (serviceAt (drop at (now (chunk .entry))))) ⌝ }
+{
+    let id = octets::word_of(chunk[at], chunk[at + 1]);
+    let third = chunk[at + 2];
+    out[to] = b'S';
+    out[to + 1] = b'V';
+    out[to + 2] = octets::high_of(id);
+    out[to + 3] = octets::low_of(id);
+    out[to + 4] = third / 8 % 4;
+    out[to + 5] = third / 2 % 4;
+    out[to + 6] = third % 2;
+}
+
+// The records of count services from a place of the chunk on, their extensions s bytes long.
+fn write_services(chunk: &[u8], from: usize, s: usize, count: usize, out: &mut [u8], start: usize)
+    requires { ⌜ (from + count * (serviceBytes + s) ≤ length (now chunk)) × (start + svBytes * count ≤ length (now out)) ⌝ }
+    ensures { λ _. ⌜ now (out .exit) ≡ sets (now (out .entry)) start (flatMap svRecord (servicesAt s count (drop from (now (chunk .entry))))) ⌝ }
+{
+    let mut at = from;
+    let mut to = start;
+    let mut left = count;
+    while 0 < left {
+        write_service(chunk, at, out, to);
+        at += SERVICE_BYTES + s;
+        to += SV_BYTES;
+        left -= 1;
+    }
+}
+
+// The record of the ensemble at a place of the chunk, then those of its services; how many services there are.
+fn write_ensemble(chunk: &[u8], at: usize, e: usize, s: usize, out: &mut [u8], to: usize) -> usize
+    requires { ⌜ at + (ensembleBytes + e) + servicesRoom e s (drop at (now chunk)) ≤ length (now chunk) ⌝ }
+    requires { ⌜ to + enBytes + svBytes * servicesIn e (drop at (now chunk)) ≤ length (now out) ⌝ }
+    ensures { λ r. ⌜ r ≡ servicesIn e (drop at (now (chunk .entry))) ⌝ }
+    ensures { λ _. ⌜ now (out .exit) ≡ sets (now (out .entry)) to (ensembleListing (ensembleAt e s (drop at (now (chunk .entry))))) ⌝ }
+{
+    let third = chunk[at + 2];
+    let services = chunk[at + (3 + e)];
+    out[to] = b'E';
+    out[to + 1] = b'N';
+    out[to + 2] = chunk[at];
+    out[to + 3] = third / 32;
+    out[to + 4] = third % 32;
+    out[to + 5] = services;
+    let count = services as usize;
+    write_services(
+        chunk,
+        at + (ENSEMBLE_BYTES + e),
+        s,
+        count,
+        out,
+        to + EN_BYTES,
+    );
+    count
+}
+
+// The records of count ensembles from a place of the chunk on, that the checks passed; the place after them in the output.
+fn write_ensembles(
+    chunk: &[u8],
+    from: usize,
+    e: usize,
+    s: usize,
+    count: usize,
+    out: &mut [u8],
+    start: usize,
+) -> usize
+    requires { ⌜ (from ≤ length (now chunk)) × (length (now chunk) ≤ longestChunk) × (e < 8) × (s < 8) ⌝ }
+    requires { ⌜ ensemblesChecks e s count (drop from (now chunk)) ≡ Checked.Fine ⌝ }
+    requires { ⌜ start + length (flatMap ensembleListing (ensemblesAt e s count (drop from (now chunk)))) ≤ length (now out) ⌝ }
+    ensures { λ r. ⌜ r ≡ start + length (flatMap ensembleListing (ensemblesAt e s count (drop from (now (chunk .entry))))) ⌝ }
+    ensures { λ _. ⌜ now (out .exit) ≡ sets (now (out .entry)) start (flatMap ensembleListing (ensemblesAt e s count (drop from (now (chunk .entry))))) ⌝ }
+{
+    let mut at = from;
+    let mut to = start;
+    let mut left = count;
+    while 0 < left {
+        let services = write_ensemble(chunk, at, e, s, out, to);
+        at = at + (ENSEMBLE_BYTES + e) + services * (SERVICE_BYTES + s);
+        to = to + (EN_BYTES + SV_BYTES * services);
+        left -= 1;
+    }
+    to
+}
+
+// The listing of a chunk that the checks passed, at the start of the output; its length. Internal: the desk calls it once it has seen that the
+// kind agrees (docs/DECISIONS.md, 7).
+pub fn write_listing(chunk: &[u8], out: &mut [u8]) -> usize
+    requires { ⌜ (checks (now chunk) ≡ Checked.Fine) × (longestListing ≤ length (now out)) ⌝ }
+    ensures { λ r. ⌜ r ≡ length (listing (listIn (now (chunk .entry)))) ⌝ }
+    ensures { λ _. ⌜ now (out .exit) ≡ sets (now (out .entry)) 0 (listing (listIn (now (chunk .entry)))) ⌝ }
+{
+    let h = (chunk[0] % 8) as usize;
+    let second = chunk[1];
+    let e = (second / 32) as usize;
+    let s = (second / 4 % 8) as usize;
+    let stream = octets::word_of(chunk[2], chunk[3]);
+    let count = chunk[4 + h];
+    out[0] = b'T';
+    out[1] = b'S';
+    out[2] = octets::high_of(stream);
+    out[3] = octets::low_of(stream);
+    out[4] = count;
+    write_ensembles(
+        chunk,
+        CHUNK_HEADER_BYTES + h,
+        e,
+        s,
+        count as usize,
+        out,
+        TS_BYTES,
+    )
+}

@@ -1,0 +1,237 @@
+-- The well formed listings are the listings of the lists whose fields fit, each of one list only. Assumes nothing.
+use mathlib.Core.Path.{_≡_, refl, sym, ap, ap₂, _∙_}
+use mathlib.Core.Bool.{true, and-eq-true-iff}
+use mathlib.Core.List.{List, [], _∷_, _++_, map, flatMap}
+use Prim.Native.Nat.{ℕ, zero, suc, _+_, _*_, _/_, _%_, _-_, _≤_}
+use native.Mathlib.Nat.{add-zero}
+use native.Mathlib.Omega.{arith}
+use borrow.Author.Tests.{leb-true, le-leb, eqb-true}
+use lib.ListN.{length, getD, take, drop, length-map, take-append-drop}
+use lib.Seq.{drop-at, drop-cons, drop-drop}
+use Rattle.octets.specs.Bits.{InWidth, Held, Bytes}
+use Rattle.octets.proofs.Laws.{same-eq, each-append, each-join, each-left, each-right, high-word, low-word, word-high-low, bytes-append, bytes-drop, getD-byte}
+use Rattle.meaning.specs.declared.Kind.the-variants.{This}
+use Rattle.records.specs.Records.{markBytes}
+use Rattle.meaning.specs.Sizes.{tsBytes, enBytes, svBytes, mostFlags, mostChannel, mostMulti, mostStatus, mostSP}
+use Rattle.meaning.specs.Lists.{Service, Ensemble, FicList}
+use Rattle.meaning.specs.Layout.{serviceFields, ensembleFields, chunkFields}
+use Rattle.meaning.specs.Plain.{plainService, plainEnsemble, plain, Fits}
+use Rattle.meaning.specs.Listing.{markTS, markEN, markSV, flags, svRecord, enRecord, tsRecord, ensembleListing, listing}
+use Rattle.meaning.specs.Said.{stands, svFits, serviceSaid, servicesFit, servicesSaid, enFits, countSaid, afterEN, afterServices, ensembleSaid, ensemblesFit, ensemblesSaid, listingFits, listSaid}
+use Rattle.meaning.proofs.Lengths.{length-records}
+use Rattle.meaning.proofs.Counts.{length-servicesSaid, length-ensemblesSaid, leb-and}
+
+-- ---- services, listed
+
+-- every number of the services fits its field
+abbrev ServicesHeld : List Service → Type 0
+ServicesHeld vs = Held (flatMap serviceFields (map plainService vs))
+
+services-fit : (vs : List Service) (rest : List ℕ) → ServicesHeld vs → servicesFit (length vs) (flatMap svRecord vs ++ rest) ≡ true
+unfolding flatMap serviceFields servicesFit svFits
+services-fit [] rest h = refl
+services-fit (v ∷ vs) rest h =
+    let room : svBytes ≤ length (flatMap svRecord (v ∷ vs) ++ rest) = omega arith in
+    let most : (v .multi ≤ mostMulti) × (v .status ≤ mostStatus) × (v .sp ≤ mostSP) = omega arith in
+    simp (le-leb _ _ room, le-leb _ _ (most .0), le-leb _ _ (most .1), le-leb _ _ (most .2)) (services-fit vs rest (h .1 .1 .1 .1 .1))
+
+services-said : (vs : List Service) (rest : List ℕ) → servicesSaid (length vs) (flatMap svRecord vs ++ rest) ≡ vs
+unfolding flatMap servicesSaid
+services-said [] rest = refl
+services-said (v ∷ vs) rest =
+    let id = word-high-low (v .id) in
+    let more = services-said vs rest in
+    λ i. record { id = id i; multi = v .multi; status = v .status; sp = v .sp } ∷ more i
+
+services-bytes : (vs : List Service) → ServicesHeld vs → Bytes (flatMap svRecord vs)
+unfolding flatMap serviceFields
+services-bytes [] h = tt
+services-bytes (v ∷ vs) h = bytes-append (svRecord v) (flatMap svRecord vs) (omega arith) (services-bytes vs (h .1 .1 .1 .1 .1))
+
+-- ---- ensembles, listed
+
+-- every number of the ensembles and of their services fits its field
+abbrev EnsemblesHeld : List Ensemble → Type 0
+EnsemblesHeld es = Held (flatMap ensembleFields (map plainEnsemble es))
+
+-- the fields of an ensemble's services, and of the ensembles after it
+ensembles-held : (e : Ensemble) (es : List Ensemble) → EnsemblesHeld (e ∷ es) → ServicesHeld (e .services) × EnsemblesHeld es
+unfolding flatMap ensembleFields
+ensembles-held e es h =
+    let own = flatMap serviceFields (map plainService (e .services)) in
+    let others = flatMap ensembleFields (map plainEnsemble es) in
+    let both = h .1 .1 .1 .1 .1 .1 .1 .1 in
+    (each-left InWidth own others both, each-right InWidth own others both)
+
+after-services : (e : Ensemble) (rest : List ℕ) → afterServices (ensembleListing e ++ rest) ≡ rest
+unfolding ensembleListing
+after-services e rest = drop-at (flatMap svRecord (e .services)) rest (svBytes * length (e .services)) (length-records (e .services))
+
+ensembles-fit : (es : List Ensemble) → EnsemblesHeld es → ensemblesFit (length es) (flatMap ensembleListing es) ≡ true
+unfolding flatMap ensembleFields ensembleListing ensemblesFit enFits
+ensembles-fit [] h = refl
+ensembles-fit (e ∷ es) h =
+    let held = ensembles-held e es h in
+    let more : List ℕ = flatMap ensembleListing es in
+    let room : enBytes ≤ length (ensembleListing e ++ more) = omega arith in
+    let most : (flags e ≤ mostFlags) × (e .channel ≤ mostChannel) = omega arith in
+    simp (le-leb _ _ room, le-leb _ _ (most .0), le-leb _ _ (most .1), services-fit (e .services) more (held .0), after-services e more)
+    (ensembles-fit es (held .1))
+
+ensembles-said : (es : List Ensemble) → EnsemblesHeld es → ensemblesSaid (length es) (flatMap ensembleListing es) ≡ es
+unfolding flatMap ensembleFields ensembleListing ensemblesSaid
+ensembles-said [] h = refl
+ensembles-said (e ∷ es) h =
+    let more : List ℕ = flatMap ensembleListing es in
+    let slt : flags e / 4 ≡ e .slt = omega arith in
+    let gat : flags e / 2 % 2 ≡ e .gat = omega arith in
+    let eat : flags e % 2 ≡ e .eat = omega arith in
+    let services = services-said (e .services) more in
+    let rest = ap (ensemblesSaid (length es)) (after-services e more) ∙ ensembles-said es (ensembles-held e es h .1) in
+    λ i. record { id = e .id; slt = slt i; gat = gat i; eat = eat i; channel = e .channel; services = services i } ∷ rest i
+
+ensembles-bytes : (es : List Ensemble) → EnsemblesHeld es → Bytes (flatMap ensembleListing es)
+unfolding flatMap ensembleFields ensembleListing
+ensembles-bytes [] h = tt
+ensembles-bytes (e ∷ es) h =
+    let held = ensembles-held e es h in
+    bytes-append (enRecord e) (flatMap svRecord (e .services) ++ flatMap ensembleListing es) (omega (arith, length-map (e .services) plainService))
+    (bytes-append (flatMap svRecord (e .services)) (flatMap ensembleListing es) (services-bytes (e .services) (held .0)) (ensembles-bytes es (held .1)))
+
+-- ---- lists, listed
+
+list-held : (l : FicList) → Fits l → EnsemblesHeld (l .ensembles)
+unfolding chunkFields
+list-held l h = each-left InWidth (flatMap ensembleFields (map plainEnsemble (l .ensembles))) [] (h .1 .1 .1 .1 .1 .1 .1 .1 .1)
+
+pub listing-fitting : (l : FicList) → Fits l → listingFits (listing l) ≡ true
+unfolding listing listingFits
+listing-fitting l h =
+    let room : tsBytes ≤ length (listing l) = omega arith in
+    simp (le-leb _ _ room) (ensembles-fit (l .ensembles) (list-held l h))
+
+pub said-listing : (l : FicList) → Fits l → listSaid (listing l) ≡ l
+unfolding listing listSaid
+said-listing l h =
+    let ensembles = ensembles-said (l .ensembles) (list-held l h) in
+    λ i. record { stream = word-high-low (l .stream) i; ensembles = ensembles i }
+
+pub bytes-listing : (l : FicList) → Fits l → Bytes (listing l)
+unfolding chunkFields listing
+bytes-listing l h =
+    bytes-append (tsRecord l) (flatMap ensembleListing (l .ensembles)) (omega (arith, length-map (l .ensembles) plainEnsemble))
+    (ensembles-bytes (l .ensembles) (list-held l h))
+
+-- a listing is of one list only
+pub listing-once : (l m : FicList) → Fits l → Fits m → listing l ≡ listing m → l ≡ m
+listing-once l m f g e = sym (said-listing l f) ∙ ap listSaid e ∙ said-listing m g
+
+-- ---- a record at the start of a byte string
+
+-- n elements from place k on
+abbrev cells : ℕ → ℕ → List ℕ → List ℕ
+cells k zero xs = []
+cells k (suc n) xs = getD xs k 0 ∷ cells (suc k) n xs
+
+cells-drop : (k n : ℕ) (xs : List ℕ) → k + n ≤ length xs → cells k n xs ++ drop (k + n) xs ≡ drop k xs
+cells-drop k zero xs h = ap (λ (j : ℕ). drop j xs) (add-zero k)
+cells-drop k (suc n) xs h =
+    let next : k + suc n ≡ suc k + n = omega arith in
+    (λ i. getD xs k 0 ∷ (cells (suc k) n xs ++ drop (next i) xs))
+    ∙ ap (λ (t : List ℕ). getD xs k 0 ∷ t) (cells-drop (suc k) n xs (omega arith))
+    ∙ sym (drop-cons xs k 0 (omega arith))
+
+record-cells : (mark xs : List ℕ) (n : ℕ) → stands mark (markBytes + n) xs ≡ true → mark ++ (cells markBytes n xs ++ drop (markBytes + n) xs) ≡ xs
+record-cells mark xs n h =
+    let p = leb-and (markBytes + n) (length xs) h in
+    ap₂ _++_ (sym (same-eq (take markBytes xs) mark (p .1))) (cells-drop markBytes n xs (p .0)) ∙ take-append-drop markBytes xs
+
+-- ---- services, said
+
+service-listed : (zs : List ℕ) → Bytes zs → svFits zs ≡ true → (svRecord (serviceSaid zs) ++ drop svBytes zs ≡ zs) × Held (serviceFields (plainService (serviceSaid zs)))
+unfolding serviceFields svFits
+service-listed zs b f =
+    let head = and-eq-true-iff (stands markSV svBytes zs) _ .0 f in
+    let multi = leb-and (getD zs 4 0) mostMulti (head .1) in
+    let status = leb-and (getD zs 5 0) mostStatus (multi .1) in
+    let sp = leb-true (getD zs 6 0) mostSP (status .1) in
+    let b3 = getD-byte zs 3 b in
+    let first = high-word (getD zs 2 0) (getD zs 3 0) b3 in
+    let second = low-word (getD zs 2 0) (getD zs 3 0) b3 in (
+      (λ i. markSV ++ (first i ∷ second i ∷ getD zs 4 0 ∷ getD zs 5 0 ∷ getD zs 6 0 ∷ drop svBytes zs))
+          ∙ record-cells markSV zs (svBytes - markBytes) (head .0),
+      omega (arith, getD-byte zs 2 b),
+    )
+
+services-listed : (n : ℕ) (zs : List ℕ) → Bytes zs → servicesFit n zs ≡ true → (flatMap svRecord (servicesSaid n zs) ++ drop (svBytes * n) zs ≡ zs) × ServicesHeld (servicesSaid n zs)
+unfolding flatMap servicesFit servicesSaid
+services-listed zero zs b f = (refl, tt)
+services-listed (suc n) zs b f =
+    let fit = and-eq-true-iff (svFits zs) _ .0 f in
+    let rest : List ℕ = drop svBytes zs in
+    let own = service-listed zs b (fit .0) in
+    let more = services-listed n rest (bytes-drop svBytes zs b) (fit .1) in
+    let further : svBytes * suc n ≡ svBytes + svBytes * n = omega arith in
+    let place : drop (svBytes * suc n) zs ≡ drop (svBytes * n) rest =
+    ap (λ (k : ℕ). drop k zs) further ∙ sym (drop-drop (svBytes * n) svBytes zs) in (
+      ap (λ (t : List ℕ). svRecord (serviceSaid zs) ++ (flatMap svRecord (servicesSaid n rest) ++ t)) place
+          ∙ ap (λ (t : List ℕ). svRecord (serviceSaid zs) ++ t) (more .0)
+          ∙ own .0,
+      each-append InWidth (serviceFields (plainService (serviceSaid zs))) (flatMap serviceFields (map plainService (servicesSaid n rest))) (own .1) (more .1),
+    )
+
+-- ---- ensembles, said
+
+ensemble-listed : (ys : List ℕ) → Bytes ys → enFits ys ≡ true → servicesFit (countSaid ys) (afterEN ys) ≡ true → (ensembleListing (ensembleSaid ys) ++ afterServices ys ≡ ys) × Held (ensembleFields (plainEnsemble (ensembleSaid ys)))
+unfolding ensembleFields ensembleListing enFits
+ensemble-listed ys b f g =
+    let head = and-eq-true-iff (stands markEN enBytes ys) _ .0 f in
+    let flag = leb-and (getD ys 3 0) mostFlags (head .1) in
+    let channel = leb-true (getD ys 4 0) mostChannel (flag .1) in
+    let count = length-servicesSaid (countSaid ys) (afterEN ys) in
+    let sum : flags (ensembleSaid ys) ≡ getD ys 3 0 = omega arith in
+    let services = services-listed (countSaid ys) (afterEN ys) (bytes-drop enBytes ys b) g in (
+      (λ i. markEN ++ (getD ys 2 0 ∷ sum i ∷ getD ys 4 0 ∷ count i ∷ services .0 i))
+          ∙ record-cells markEN ys (enBytes - markBytes) (head .0),
+      each-join InWidth 8 (ensembleFields (plainEnsemble (ensembleSaid ys)))
+          (omega (arith, getD-byte ys 2 b, getD-byte ys 5 b, length-map (servicesSaid (countSaid ys) (afterEN ys)) plainService))
+          (services .1),
+    )
+
+ensembles-listed : (n : ℕ) (ys : List ℕ) → Bytes ys → ensemblesFit n ys ≡ true → (flatMap ensembleListing (ensemblesSaid n ys) ≡ ys) × EnsemblesHeld (ensemblesSaid n ys)
+unfolding flatMap ensemblesFit ensemblesSaid
+ensembles-listed zero [] b f = (refl, tt)
+ensembles-listed zero (y ∷ ys) b f = absurd (omega (arith, eqb-true (length (y ∷ ys)) 0 f))
+ensembles-listed (suc n) ys b f =
+    let head = and-eq-true-iff (enFits ys) _ .0 f in
+    let tail = and-eq-true-iff (servicesFit (countSaid ys) (afterEN ys)) _ .0 (head .1) in
+    let own = ensemble-listed ys b (head .0) (tail .0) in
+    let bytes = bytes-drop (svBytes * countSaid ys) (afterEN ys) (bytes-drop enBytes ys b) in
+    let more = ensembles-listed n (afterServices ys) bytes (tail .1) in (
+      ap (λ (t : List ℕ). ensembleListing (ensembleSaid ys) ++ t) (more .0) ∙ own .0,
+      each-append InWidth (ensembleFields (plainEnsemble (ensembleSaid ys))) (flatMap ensembleFields (map plainEnsemble (ensemblesSaid n (afterServices ys)))) (own .1) (more .1),
+    )
+
+-- ---- lists, said
+
+list-listed : (xs : List ℕ) → Bytes xs → listingFits xs ≡ true → (listing (listSaid xs) ≡ xs) × Fits (listSaid xs)
+unfolding chunkFields listing listingFits listSaid
+list-listed xs b f =
+    let head = and-eq-true-iff (stands markTS tsBytes xs) _ .0 f in
+    let b3 = getD-byte xs 3 b in
+    let first = high-word (getD xs 2 0) (getD xs 3 0) b3 in
+    let second = low-word (getD xs 2 0) (getD xs 3 0) b3 in
+    let es : List Ensemble = ensemblesSaid (getD xs 4 0) (drop tsBytes xs) in
+    let count : length es ≡ getD xs 4 0 = length-ensemblesSaid (getD xs 4 0) (drop tsBytes xs) in
+    let ensembles = ensembles-listed (getD xs 4 0) (drop tsBytes xs) (bytes-drop tsBytes xs b) (head .1) in (
+      (λ i. markTS ++ (first i ∷ second i ∷ count i ∷ ensembles .0 i))
+          ∙ record-cells markTS xs (tsBytes - markBytes) (head .0),
+      each-join InWidth 9 (chunkFields (plain This (listSaid xs))) (omega (arith, getD-byte xs 2 b, getD-byte xs 4 b, length-map es plainEnsemble))
+          (each-append InWidth (flatMap ensembleFields (map plainEnsemble es)) [] (ensembles .1) tt),
+    )
+
+pub listing-said : (xs : List ℕ) → Bytes xs → listingFits xs ≡ true → listing (listSaid xs) ≡ xs
+listing-said xs b f = list-listed xs b f .0
+
+pub said-fitting : (xs : List ℕ) → Bytes xs → listingFits xs ≡ true → Fits (listSaid xs)
+said-fitting xs b f = list-listed xs b f .1

@@ -1,0 +1,2 @@
+pub mod Roles
+pub mod Laws

@@ -1,0 +1,174 @@
+#!/usr/bin/env python3
+"""Makes the stored logs and what the programs must write for them, by tests/log.py, and prints how often each answer occurs.
+
+    python3 tests/log_samples.py
+
+It writes crates/log_samples/data, crates/log_samples/args, crates/log_samples/stdout, crates/log/stdin and crates/log/stdout. A log is made of steps, each a
+record with the answer that document 01 demands, said here without the desk of tests/log.py; both must agree. Only long_night has no
+such answers.
+"""
+import collections
+import pathlib
+import re
+import sys
+
+sys.dont_write_bytecode = True
+
+from log import transcript
+from night import long_night
+from pieces import Dice, bent, chance, chunk, cut, fr, gives, miss, no, ones, plain, sent, turned, zeros
+
+CRATES = pathlib.Path(__file__).resolve().parent.parent / "crates"
+SAMPLE = bytes.fromhex("5347 3000 0002012301 05E08301 0A01E6" + 23 * "FF" + "4652 4652")
+SAMPLE_PRINTS = """SG 0 list next 18
+5453012301454e0504030153560a01000300
+FR 18
+5453012301454e0504030153560a01000300
+FR none
+END 0
+"""
+SHAPES = ["GA", "FR none", "FR n", "SG 0 missing n", "SG 0 missing 0", "SG 0 list this n", "SG 0 list next n",
+          "SG 3", "SG 4", "SG 5", "SG 6", "SG 7", "SG 9", "SG 10", "SG 11", "END 0", "END 15"]
+GA, NONE = [(b"GA", "GA")], [(b"FR", "FR none")]
+# A and B bring TWO for this frame, C and D for the next; ONLY and SPARE bring ONE, in a single piece
+ONE, TWO, LONG = plain(1), plain(10), plain(183, 0xFEDC)
+(A, B), (C, D) = (cut(chunk(TWO, kind), kind) for kind in ("this", "next"))
+(ONLY,), (SPARE,) = (cut(chunk(ONE, kind), kind) for kind in ("this", "next"))
+
+
+def refusals():
+    # by the header, which in B has number 1 and last 1: nothing changes
+    damaged = []
+    for number, head in [(3, 0x4000), (3, 0x8000), (3, 0xC000), (3, 0x4D01), (4, 0x0100), (4, 0x0D01),
+                         (5, 0x0400), (5, 0x0800), (5, 0x0C00), (5, 0x0C01), (6, 0x0001), (6, 0x00E0)]:
+        damaged += no(number, bent(B, head))
+    steps = damaged + miss(1, A) + damaged + gives(TWO, "this", B) + damaged + miss(0, A, B)
+    # 7, a place held with other payload, the slot complete or not: spoiled until GA, and the other kind isn't
+    for before in miss(1, A), sent(TWO, "this"):
+        steps += GA + before + no(7, bent(A, 0, 1), A, B, ONLY) + damaged + sent(TWO, "next") + GA + sent(TWO, "this")
+    steps += fr(TWO)
+    # 7, another last number, the place held or not: spoiled until FR
+    for other in ONLY, bent(A, 0x0002), bent(B, 0x000E):
+        steps += miss(1, A) + no(7, other, B, A, other) + NONE + sent(TWO, "this") + GA
+    # by a completed chunk: it's held and complete, so repeats lack 0. Of either kind, since 10 comes last. Stuffing is FF
+    for number, text in [(5, "4003012300"), (5, "8002"), (5, "C003" + 33 * "00"), (9, "000301230105E083FF"), (9, "00030123FF" + 30 * "00"),
+                         (11, "00030123010501"), (11, "00030123FF"), (11, "000201230205E0830006F0"), (10, None)]:
+        for kind, differs in ("this", "0002012300"), ("next", "0003012300"):
+            record, = cut(bytes.fromhex(text or differs), kind)
+            steps += GA + no(number, record) + miss(0, record, bent(record, 0x1000)) + no(7, bent(record, 0, 1), record)
+    # the same in two pieces, and the list from before stays
+    good = chunk((1, plain(8)[1] + [(6, 0, 0, [])]), "next")
+    for number, at, mask in (5, 0, 0x40), (11, 34, 1), (9, 36, 255), (10, 1, 1):
+        first, second = cut(turned(good, at, mask), "next")
+        steps += GA + sent(ONE, "next") + GA + miss(1, second, second) + no(number, first) + miss(0, second, first) + fr(ONE) + NONE
+    return steps + miss(1, A) + [(b"SA" + B[2:] + B + b"FRGA", "END 15")]
+
+
+def slips():
+    # a next list has its turn at the boundary and for one frame; pieces from before the boundary are forgotten; a this list isn't carried
+    steps = sent(TWO, "this") + sent(ONE, "next") + miss(0, A) + fr(ONE) + miss(1, C) + NONE + miss(1, D) + gives(TWO, "next", C)
+    steps += sent(ONE, "this") + fr(TWO) + miss(1, A) + gives(TWO, "this", B) + NONE + NONE
+    steps += sent(ONE, "next") + fr(ONE) + miss(1, A) + no(7, bent(A, 0, 1)) + NONE
+    # the number of services comes after the ensemble's extension bytes
+    dice = Dice(1)
+    for e in range(1, 8):
+        for noise in zeros, ones, dice:
+            steps += sent(TWO, "this", noise=noise, e=e, minor=e) + sent(ONE, "next", noise=noise, e=e) + fr(ONE)
+    # reserved bits may be anything, and those of the header may differ in a repeat
+    for noise in zeros, dice, dice, dice:
+        steps += sent(TWO, "this", noise=noise) + GA + sent(TWO, "next", noise=noise) + GA
+    for head in 0x1000, 0x2000, 0x3000:
+        steps += miss(1, A, bent(A, head)) + gives(TWO, "this", bent(B, head)) + miss(0, B, bent(A, head)) + GA
+    # a repeat isn't newly held
+    x, y, z = cut(chunk(plain(24), "next"), "next")
+    return steps + miss(2, x, x, x) + miss(1, z, x, z) + gives(plain(24), "next", y) + miss(0, y, x, z) + fr(plain(24)) + NONE
+
+
+def interleaved():
+    there, back = sent(LONG, "this"), sent(plain(183), "next", order=lambda pieces: pieces[::-1])
+    assert len(there) == len(back) == 16
+    steps = [step for i in range(16) for step in [there[i], back[i]] + miss(15 - i, back[i][0], back[0][0])]
+    return steps + fr(plain(183)) + NONE
+
+
+def clash_after_list():
+    steps = sent(ONE, "this") + no(7, bent(ONLY, 0, 0x80), ONLY) + sent(TWO, "next") + no(7, bent(D, 0, 1), C, D, SPARE) + fr(TWO)
+    steps += sent(ONE, "this") + NONE + sent(TWO, "next") + no(7, SPARE) + GA + sent(ONE, "next") + no(7, C) + GA + GA + fr(ONE)
+    return steps + miss(1, C) + no(7, SPARE, D) + NONE + sent(TWO, "next") + fr(TWO) + NONE
+
+
+def shorter_list():
+    full, short, bare = (1, plain(61)[1] + plain(0)[1] + plain(120)[1]), plain(0, 0x0456), (0x0789, [])
+    assert len(chunk(full, "next")) == 560
+    steps = sent(LONG, "next") + sent(TWO, "this") + fr(LONG) + sent(ONE, "this") + sent(full, "next") + fr(full) + sent(short, "this")
+    steps += sent(TWO, "next") + fr(TWO) + NONE + sent(LONG, "this") + sent(LONG, "next") + GA + sent(ONE, "this") + sent(TWO, "next")
+    steps += fr(TWO) + sent(ONE, "next") + fr(ONE) + sent(LONG, "this") + NONE + sent(bare, "next") + fr(bare) + sent(short, "next")
+    return steps + fr(short) + sent(LONG, "next") + GA + sent(short, "next") + fr(short) + sent(bare, "this") + NONE + NONE
+
+
+def gatherings():
+    x, y, z = cut(chunk(plain(24), "this"), "this")
+    steps = GA + miss(1, A) + GA + miss(1, B) + gives(TWO, "this", A) + GA + sent(TWO, "this") + sent(ONE, "next") + GA + GA
+    steps += miss(2, x) + miss(1, C, y) + GA + miss(2, z) + miss(1, D) + GA + miss(1, A, D) + GA + fr(ONE)
+    steps += GA + miss(1, C) + GA + miss(1, D) + GA + NONE
+    return steps + sent(TWO, "next") + GA + miss(1, C) + GA + fr(TWO) + GA + NONE
+
+
+def dressed():
+    dice, steps = Dice(2), []
+    for minor in range(8):
+        for k in range(8):
+            this, after, h, s = chance(dice, 2 + dice(4), 8), chance(dice, 2 + dice(4), 8), (minor + k) % 8, (3 * minor + k) % 8
+            steps += sent(this, "this", dice.shuffled, dice, minor=minor, h=k, e=s, s=h)
+            steps += sent(after, "next", dice.shuffled, dice, minor=minor, h=h, e=k, s=s) + fr(after)
+    return steps
+
+
+def full_output():
+    # in one block of 65,536 bytes five times what the output holds, each list another
+    steps = []
+    for i in range(40):
+        this, after = plain(183, 0x1000 + i), plain(183, 0x2000 + i)
+        steps += sent(this, "this") + sent(after, "next") + fr(after) + GA
+    return steps
+
+
+def record_by_record():
+    # two turns, each of one record, for every 41 bytes that are read through a block of 39: over 4,096 of them
+    return (GA + miss(1, A)) * 2100
+
+
+def main():
+    some = sent(ONE, "next") + miss(1, A) + fr(ONE) + miss(1, A)
+    logs = {"sample": sent(ONE, "next") + fr(ONE) + NONE}
+    logs |= {make.__name__: make() for make in (refusals, slips, interleaved, clash_after_list, shorter_list)}
+    tails = {"mark_cut": b"S", "mark_cut_f": b"F", "segment_cut": B[:38], "segment_bare": b"SG", "unknown_mark": b"XXFR",
+             "unknown_f": b"FG" + B[2:], "unknown_g": b"GRFR"}
+    logs |= {name: some + [(tail, "END 15")] for name, tail in tails.items()}
+    logs |= {"empty": []} | {make.__name__: make() for make in (gatherings, dressed, long_night, full_output, record_by_record)}
+    (CRATES / "log_samples/data").mkdir(parents=True, exist_ok=True)
+    (CRATES / "log").mkdir(exist_ok=True)
+    counts, output = collections.Counter(), ""
+    for name, steps in logs.items():
+        data, answers = b"".join(record for record, _ in steps), [answer for _, answer in steps]
+        text = transcript(data)
+        early = "END 15" in answers
+        if None not in answers:
+            assert text == "\n".join(answers + ([""] if early else ["END 0", ""])), name
+        (CRATES / "log_samples/data" / name).write_bytes(data)
+        output += f"{name}, blocks of 39\n{text}{name}, blocks of 65536\n{text}"
+        counts.update(re.sub(r"(FR|missing|list \w+) [1-9]\d*$", r"\1 n", line) for line in text.splitlines() if line[:4] != "5453")
+        print(f"{name:16} {len(steps) - early:5} records {len(data):6} bytes, prints {len(text):6}")
+        if name == "sample":
+            assert (data, text) == (SAMPLE, SAMPLE_PRINTS)
+            (CRATES / "log/stdin").write_bytes(data)
+            (CRATES / "log/stdout").write_text(text)
+    (CRATES / "log_samples/args").write_text("\n".join(logs) + "\n")
+    (CRATES / "log_samples/stdout").write_text(output)
+    assert set(counts) == set(SHAPES), set(counts) ^ set(SHAPES)
+    for shape in SHAPES:
+        print(f"{shape:16} {counts[shape]:5}")
+
+
+if __name__ == "__main__":
+    main()

@@ -1,0 +1,101 @@
+#!/usr/bin/env python3
+"""Prints what crates/reader_samples must write: document 01's reader once more, in Python, from the document alone.
+
+    python3 tests/reader.py > crates/reader_samples/stdout
+"""
+import struct
+
+
+def read(chunk, room):
+    """The answer of document 01's reader: (number, kind, minor, listing)."""
+    if room < 1292:
+        return 1, None, 0, b""
+    if len(chunk) > 560:
+        return 8, None, 0, b""
+    if len(chunk) < 2:
+        return 9, None, 0, b""
+    head = int.from_bytes(chunk[:2], "big")
+    if head >> 14:
+        return 5, None, 0, b""
+    minor, h, e, s, current = head >> 11 & 7, head >> 8 & 7, head >> 5 & 7, head >> 2 & 7, head & 1
+    if len(chunk) < 5 + h:
+        return 9, None, 0, b""
+    out = b"TS" + chunk[2:4] + chunk[4 + h:5 + h]
+    rest = chunk[5 + h:]
+    for _ in range(chunk[4 + h]):
+        if len(rest) < 4 + e:
+            return 9, None, 0, b""
+        if rest[1] & 31:
+            return 11, None, 0, b""
+        count = rest[3 + e]
+        out += b"EN" + bytes([rest[0], rest[2] >> 5, rest[2] & 31, count])
+        rest = rest[4 + e:]
+        if len(rest) < count * (3 + s):
+            return 9, None, 0, b""
+        for _ in range(count):
+            ident, bits = struct.unpack(">HB", rest[:3])
+            out += b"SV" + struct.pack(">HBBB", ident, bits >> 3 & 3, bits >> 1 & 3, bits & 1)
+            rest = rest[3 + s:]
+    return 0, "this" if current else "next", minor, out
+
+
+def show(name, chunk, room=1292):
+    number, kind, minor, listing = read(chunk, room)
+    words = [name, str(number)]
+    if not number:
+        words += [kind, str(minor), str(len(listing)), listing.hex()]
+    print(*words, "kept")
+
+
+def header(h, e, s, count):
+    return bytes([7 << 3 | h, e << 5 | s << 2 | 3, 0x01, 0x23]) + b"\xa1" * h + bytes([count])
+
+
+def ensemble(ident, e, s, services):
+    body = b"".join(bytes([0x10, i, 0xE0 + i % 32]) + b"\xc3" * s for i in range(services))
+    return bytes([ident, 0xE0, 0x5F]) + b"\xb2" * e + bytes([services]) + body
+
+
+FIRST = bytes.fromhex("0003 0123 01 05E083 01 0A01E6")
+
+
+def main():
+    for name, text in [
+        ("first", FIRST.hex()), ("minor 1, h 1, e 2", "09430123AA01 05E083BBCC01 0A01E6"), ("no ensemble", "0003012300"),
+        ("no ensemble, cut", "00030123"), ("empty", ""), ("one byte of major 1", "40"), ("two bytes of major 1", "4003"),
+        ("an ensemble short", "0003012301"), ("version 1", "0003012301 05E18301 0A01E6"), ("first, cut", FIRST[:-1].hex()),
+        ("kind next", "0002012301 05E08301 0A01E6"), ("reserved bits zeros", "0001012301 05008301 0A0106"),
+        ("all flags, channel 31, multi 3, SP", "0003FFFE01 FFE0FF01 1234FF"), ("major 3, header cut", "C70301"),
+        ("header cut in its extension", "07030123 00000000000000"), ("header and its extension", "07030123 0000000000000000"),
+        ("version 1, no room for its services", "0003012301 05E183FF"), ("version 1, fields cut", "0003012301 05E183"),
+        ("second ensemble of version 1", "0003012302 05E08300 06FF0000"), ("second ensemble cut", "0003012302 05E08300 06E000"),
+        ("255 ensembles", "00030123FF 05E08300 06E00000"),
+    ]:
+        show(name, bytes.fromhex(text))
+    one = header(0, 0, 0, 1) + ensemble(5, 0, 0, 183)
+    assert len(one) == 558
+    show("183 services", one)
+    show("183 services, cut", one[:-1])
+    more = header(0, 0, 0, 1) + ensemble(5, 0, 0, 184)
+    show("184 services", more)
+    show("184 services in 560 bytes", more[:-1])
+    three = header(0, 0, 0, 3) + ensemble(1, 0, 0, 61) + ensemble(2, 0, 0, 0) + ensemble(3, 0, 0, 120)
+    assert len(three) == 560
+    show("three ensembles, 181 services", three)
+    show("three ensembles, 561 bytes", three + b"\xff")
+    small = header(7, 7, 7, 1) + ensemble(5, 7, 7, 1)
+    show("extensions 7", small)
+    show("extensions 7, cut", small[:-1])
+    full = header(7, 7, 7, 8) + ensemble(0, 7, 7, 4) + b"".join(ensemble(i, 7, 7, 6) for i in range(1, 8))
+    assert len(full) == 560
+    show("extensions 7, 560 bytes", full)
+    show("extensions 7, 559 bytes", full[:-1])
+    for n in range(550):
+        show("stuffing", FIRST + bytes([n % 256]) * n)
+    for room in (0, 1291, 1292, 1400):
+        show(f"buffer of {room}", FIRST, room)
+    show("buffer of 1291, chunk of 561", FIRST + bytes(549), 1291)
+
+
+if __name__ == "__main__":
+    main()
