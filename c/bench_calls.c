@@ -5,6 +5,7 @@
 
 #include "make.h"
 
+#include <stdbool.h>
 #include <stdio.h>
 #include <stdlib.h>
 #include <string.h>
@@ -24,7 +25,7 @@ static inline uint64_t read_one(const uint8_t *chunk, size_t n, uint8_t *buffer)
     return lukasembo_number(a) == LUKASEMBO_ACCEPTED ? lukasembo_length(a) : 0;
 }
 
-static inline uint64_t write_one(const uint8_t *listing, size_t n, uint8_t kind, uint8_t *output)
+static inline uint64_t write_one(const uint8_t *listing, size_t n, bool kind, uint8_t *output)
 {
     const uint64_t a = lukasembo_write(listing, n, kind, output, OUTPUT);
 
@@ -41,7 +42,7 @@ static inline uint64_t read_one(const uint8_t *chunk, size_t n, uint8_t *buffer)
     return a.number == 0 ? a.length : 0;
 }
 
-static inline uint64_t write_one(const uint8_t *listing, size_t n, uint8_t kind, uint8_t *output)
+static inline uint64_t write_one(const uint8_t *listing, size_t n, bool kind, uint8_t *output)
 {
     const struct plain_write a = plain_write(listing, n, kind, output, OUTPUT);
 
@@ -52,7 +53,7 @@ static inline uint64_t write_one(const uint8_t *listing, size_t n, uint8_t kind,
 struct item {
     const uint8_t *bytes;
     size_t n;
-    uint8_t kind;
+    bool kind;
 };
 
 static struct item items[ITEMS];
@@ -60,14 +61,14 @@ static size_t count;
 static uint8_t store[ITEMS * LISTING], buffer[LISTING];
 static volatile uint64_t sink;
 
-static void add(const uint8_t *bytes, size_t n, unsigned kind)
+static void add(const uint8_t *bytes, size_t n, bool kind)
 {
     uint8_t *to = store + count * LISTING;
 
     memcpy(to, bytes, n);
     items[count].bytes = to;
     items[count].n = n;
-    items[count++].kind = (uint8_t)kind;
+    items[count++].kind = kind;
 }
 
 /* The inputs of a case; answers 0 for an unknown one. */

@@ -1,28 +1,19 @@
-/* Prints what a chunk, given in hex on the command line, lists: example [HEX] */
+/* What a chunk, given in hex, lists; then that list written for the next frame, and read back: example [HEX] */
 #include "lukasembo.h"
 
 #include <stdio.h>
 #include <string.h>
 
-int main(int argc, char **argv)
+/* Reads a chunk and prints what it lists; answers the listing's length, or 0 where the chunk is refused. */
+static size_t show(const uint8_t *chunk, size_t length, uint8_t listing[LUKASEMBO_LISTING])
 {
-    const char *hex = argc > 1 ? argv[1] : "0003012301" "05E08301" "0A01E6";
-    uint8_t chunk[LUKASEMBO_CHUNK + 1], listing[LUKASEMBO_LISTING];
+    const uint64_t answer = lukasembo_read(chunk, length, listing, LUKASEMBO_LISTING);
     const uint8_t *at = listing;
-    size_t n = 0;
-    unsigned byte, ensembles, services;
-    uint64_t answer;
+    unsigned ensembles, services;
 
-    for (; n < sizeof chunk && strspn(hex, "0123456789abcdefABCDEF") >= 2 && sscanf(hex, "%2x", &byte) == 1; hex += 2)
-        chunk[n++] = (uint8_t)byte;
-    if (*hex != '\0' && n < sizeof chunk) {
-        fprintf(stderr, "usage: example HEX\n");
-        return 1;
-    }
-    answer = lukasembo_read(chunk, n, listing, sizeof listing);
     if (lukasembo_number(answer) != LUKASEMBO_ACCEPTED) {
         printf("refused, number %d\n", (int)lukasembo_number(answer));
-        return 1;
+        return 0;
     }
     printf("for %s frame, minor edition %u\n", lukasembo_kind(answer) == LUKASEMBO_THIS ? "this" : "the next", lukasembo_minor(answer));
     printf("transport stream %u\n", at[2] * 256u + at[3]);
@@ -31,5 +22,30 @@ int main(int argc, char **argv)
         for (services = at[5], at += 6; services > 0; services--, at += 7)
             printf("    service %u: multi %d, status %d, SP %d\n", at[2] * 256u + at[3], at[4], at[5], at[6]);
     }
-    return 0;
+    return lukasembo_length(answer);
+}
+
+int main(int argc, char **argv)
+{
+    const char *hex = argc > 1 ? argv[1] : "0003012301" "05E08301" "0A01E6";
+    uint8_t chunk[LUKASEMBO_CHUNK + 1], listing[LUKASEMBO_LISTING], segments[LUKASEMBO_OUTPUT];
+    size_t n = 0, length, count, i;
+    unsigned byte;
+
+    /* of a chunk that is too long, as much as is refused for it */
+    for (; n < sizeof chunk && strspn(hex, "0123456789abcdefABCDEF") >= 2 && sscanf(hex, "%2x", &byte) == 1; hex += 2)
+        chunk[n++] = (uint8_t)byte;
+    if (argc > 2 || (*hex != '\0' && n < sizeof chunk)) {
+        fprintf(stderr, "usage: c/example [CHUNK IN HEX]\n");
+        return 2;
+    }
+    length = show(chunk, n, listing);
+    if (length == 0)
+        return 1;
+
+    count = lukasembo_segments(lukasembo_write(listing, length, LUKASEMBO_NEXT, segments, sizeof segments));
+    for (i = 0; i < count; i++)
+        memcpy(chunk + i * LUKASEMBO_PAYLOAD, segments + i * LUKASEMBO_SEGMENT + LUKASEMBO_HEADER, LUKASEMBO_PAYLOAD);
+    printf("written for the next frame, segments: %zu; their payloads read back:\n", count);
+    return show(chunk, count * LUKASEMBO_PAYLOAD, listing) == length ? 0 : 1;
 }

@@ -1,5 +1,6 @@
 /* Gives the same inputs to both implementations and compares every answer and every byte.
-   harness [--seed N] [--calls M] [--plant ours|plain] [--replay FILE] */
+   harness [--seed N] [--calls M] [--plant ours|plain] [--keep FOLDER], or harness --replay FILE
+   The input of a difference is written to the folder. How far it has come goes to standard error. */
 #define _DEFAULT_SOURCE
 
 #include "lukasembo.h"
@@ -11,6 +12,7 @@
 #include <stdlib.h>
 #include <string.h>
 #include <sys/mman.h>
+#include <time.h>
 #include <unistd.h>
 
 enum { OURS, PLAIN, SIDES };
@@ -22,6 +24,7 @@ enum {
     BUFFER_ROOM = LONG + 4096,
     PATTERNS = LONG,        /* places in the pattern at which a buffer's may begin */
     PLANT_EVERY = 100000,
+    TELL_AFTER = 3,         /* seconds from one line of progress to the next */
     NOWHERE = -GUARD - 1
 };
 
@@ -62,8 +65,9 @@ static uint8_t pattern[PATTERNS + BUFFER_ROOM + 2 * GUARD];
 static struct lent lent[SIDES][MEMORIES];
 static size_t region_size[MEMORIES];
 
-static uint64_t calls, limit, seen[2][256], next_plant;
+static uint64_t calls, limit, seed, seen[2][256], next_plant;
 static int plant; /* 0, or 1 + the side */
+static const char *keep = ".";
 
 /* The call at work, for the report. */
 static struct call now;
@@ -102,10 +106,13 @@ static void put_number(FILE *f, uint64_t x)
 }
 
 /* "LKH1", eight bytes, three numbers of 8 bytes (big-endian), the input. */
-static void save(const char *name)
+static void save(void)
 {
-    FILE *f = fopen(name, "wb");
+    char name[4096];
+    FILE *f;
 
+    snprintf(name, sizeof name, "%s/failure-seed-%llu-call-%llu.bin", keep, (unsigned long long)seed, (unsigned long long)calls);
+    f = fopen(name, "wb");
     if (f == NULL) {
         printf("%s can't be written\n", name);
         return;
@@ -124,7 +131,7 @@ static void save(const char *name)
     put_number(f, now.n);
     fwrite(now.input, 1, now.n, f);
     if (fclose(f) == 0)
-        printf("written to %s\n", name);
+        printf("it is kept: c/harness --replay %s\n", name);
 }
 
 static void print_call(void)
@@ -185,11 +192,11 @@ static uint64_t call_ours(const uint8_t *input, uint8_t *buffer)
     return lukasembo_read(input, now.n, buffer, now.room);
 }
 
-/* In the form of our answer. A kind that is neither 0 nor 1 is "next" for ours and "this" for plain: it is given 0. */
+/* In the form of our answer. Any kind but 0 is "this" for both: for ours the compiler makes 1 of it. */
 static uint64_t call_plain(const uint8_t *input, uint8_t *buffer)
 {
     if (now.writer) {
-        const struct plain_write a = plain_write(input, now.n, now.kind == LUKASEMBO_THIS, buffer, now.room);
+        const struct plain_write a = plain_write(input, now.n, now.kind, buffer, now.room);
 
         return (uint64_t)a.number | (uint64_t)a.segments << 16;
     } else {
@@ -351,7 +358,8 @@ static void on_signal(int sig)
            at_work == OURS ? "ours" : at_work == PLAIN ? "plain" : "the harness");
     if (at_work >= 0) {
         print_call();
-        save("harness-failure.bin");
+        if (calls > 0) /* it is 0 in a replay */
+            save();
     }
     fflush(stdout);
     _exit(1);
@@ -376,6 +384,32 @@ static void watch_signals(void)
         sigaction(signals[i], &action, NULL);
 }
 
+static void print_grouped(FILE *f, uint64_t x)
+{
+    if (x >= 1000) {
+        print_grouped(f, x / 1000);
+        fprintf(f, ",%03u", (unsigned)(x % 1000));
+    } else
+        fprintf(f, "%u", (unsigned)x);
+}
+
+static void tell(void)
+{
+    static time_t told;
+    const time_t at = time(NULL);
+
+    if (told == 0)
+        told = at;
+    if (at - told < TELL_AFTER)
+        return;
+    told = at;
+    fprintf(stderr, "harness: calls ");
+    print_grouped(stderr, calls);
+    fprintf(stderr, " of ");
+    print_grouped(stderr, limit);
+    fprintf(stderr, "\n");
+}
+
 /* Both sides, once; now has the phase, the call, its kind, input and room. */
 static void hold(void)
 {
@@ -387,6 +421,8 @@ static void hold(void)
     if (calls == limit)
         return;
     calls++;
+    if (calls % 10000 == 0)
+        tell();
     for (m = 0; m < MEMORIES; m++) {
         const unsigned d = (unsigned)(x >> 16 * m);
 
@@ -398,7 +434,7 @@ static void hold(void)
     wrong = run(&at);
     if (wrong != NULL) {
         report(wrong, at);
-        save("harness-failure.bin");
+        save();
         exit(1);
     }
     seen[now.writer][answer[OURS] & 0xFF]++;
@@ -572,7 +608,7 @@ static void too_long(uint64_t i)
 
 static const struct make_shape written = {0, 0, 0, 0, 0, 1}; /* what the writer makes, for the next frame */
 
-/* Writes the listing of list, with its answer and its segments known. */
+/* Writes the listing of list, with its answer and its segments known: any kind but 0 is for this frame. */
 static void hold_written(unsigned kind)
 {
     static struct made chunk;
@@ -580,11 +616,11 @@ static void hold_written(unsigned kind)
     struct make_shape shape = written;
     uint64_t want = 14;
 
-    shape.kind = kind;
+    shape.kind = kind != 0;
     make_listing(&list, &made);
     if (make_size(&list, &shape) <= MAKE_CHUNK) {
         make_chunk(&rng, &list, &shape, &chunk);
-        want = (uint64_t)make_segments(&rng, chunk.bytes, chunk.n, kind, 1, segments) << 16;
+        want = (uint64_t)make_segments(&rng, chunk.bytes, chunk.n, shape.kind, 1, segments) << 16;
     }
     now.writer = 1;
     now.kind = (uint8_t)kind;
@@ -665,8 +701,7 @@ static void cuts(uint64_t i)
 static void kinds(uint64_t i)
 {
     make_list(&rng, &list, &written, 12 + rng_below(&rng, 100));
-    make_listing(&list, &made);
-    hold_write(made.bytes, made.n, (unsigned)(i % 256));
+    hold_written((unsigned)(i % 256));
 }
 
 /* Listings up to the longest that counts of 255 allow, sound, damaged, and damaged in the last record.
@@ -790,7 +825,8 @@ static int run_all(void)
     int phase;
     unsigned i;
 
-    printf("seed %llu\n", (unsigned long long)rng.state);
+    rng.state = seed;
+    printf("seed %llu\n", (unsigned long long)seed);
     now.phase = SAMPLES;
     samples();
     printf("%-18s %llu\n", phase_name[SAMPLES], (unsigned long long)calls);
@@ -879,14 +915,16 @@ int main(int argc, char **argv)
     int i;
 
     limit = 6000000;
-    rng.state = 1;
+    seed = 1;
     for (i = 1; i + 1 < argc; i += 2)
         if (strcmp(argv[i], "--seed") == 0)
-            rng.state = strtoull(argv[i + 1], NULL, 10);
+            seed = strtoull(argv[i + 1], NULL, 10);
         else if (strcmp(argv[i], "--calls") == 0)
             limit = strtoull(argv[i + 1], NULL, 10);
         else if (strcmp(argv[i], "--replay") == 0)
             file = argv[i + 1];
+        else if (strcmp(argv[i], "--keep") == 0)
+            keep = argv[i + 1];
         else if (strcmp(argv[i], "--plant") == 0 && strcmp(argv[i + 1], "ours") == 0)
             plant = 1 + OURS;
         else if (strcmp(argv[i], "--plant") == 0 && strcmp(argv[i + 1], "plain") == 0)
@@ -894,7 +932,7 @@ int main(int argc, char **argv)
         else
             break;
     if (i != argc) {
-        fprintf(stderr, "usage: harness [--seed N] [--calls M] [--plant ours|plain] [--replay FILE]\n");
+        fprintf(stderr, "usage: harness [--seed N] [--calls M] [--plant ours|plain] [--keep FOLDER] | --replay FILE\n");
         return 2;
     }
     next_plant = PLANT_EVERY;

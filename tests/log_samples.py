@@ -34,6 +34,17 @@ GA, NONE = [(b"GA", "GA")], [(b"FR", "FR none")]
 ONE, TWO, LONG = plain(1), plain(10), plain(183, 0xFEDC)
 (A, B), (C, D) = (cut(chunk(TWO, kind), kind) for kind in ("this", "next"))
 (ONLY,), (SPARE,) = (cut(chunk(ONE, kind), kind) for kind in ("this", "next"))
+# two ensembles, a chunk of 37 bytes: 0A01 could be a weather channel, 0A02 a tide channel, which is in both; 4652 is the letters FR
+NOTICES = (0x0123, [(5, 4, 3, [(0x0A01, 0, 2, 0), (0x0A02, 1, 2, 0), (0x0A03, 0, 3, 0)]),
+                    (6, 3, 17, [(0x0A02, 2, 2, 0), (0x0A04, 0, 2, 1), (0x0A05, 0, 0, 0), (0x4652, 0, 2, 0), (0x4653, 0, 2, 0)])])
+
+
+def worked():
+    # docs/LOG.md takes it apart: the signal is lost after a piece of the list for this frame; the list for the next one comes whole
+    early, _ = cut(chunk(NOTICES, "this"), "this")
+    first, second = cut(chunk(NOTICES, "next"), "next")
+    steps = NONE + miss(1, early) + GA + miss(1, first, first) + no(4, turned(bent(second, 0x0100), 5, 0x10))
+    return steps + gives(NOTICES, "next", second) + fr(NOTICES) + NONE
 
 
 def refusals():
@@ -141,7 +152,7 @@ def record_by_record():
 def main():
     some = sent(ONE, "next") + miss(1, A) + fr(ONE) + miss(1, A)
     logs = {"sample": sent(ONE, "next") + fr(ONE) + NONE}
-    logs |= {make.__name__: make() for make in (refusals, slips, interleaved, clash_after_list, shorter_list)}
+    logs |= {make.__name__: make() for make in (worked, refusals, slips, interleaved, clash_after_list, shorter_list)}
     tails = {"mark_cut": b"S", "mark_cut_f": b"F", "segment_cut": B[:38], "segment_bare": b"SG", "unknown_mark": b"XXFR",
              "unknown_f": b"FG" + B[2:], "unknown_g": b"GRFR"}
     logs |= {name: some + [(tail, "END 15")] for name, tail in tails.items()}
@@ -156,14 +167,17 @@ def main():
         if None not in answers:
             assert text == "\n".join(answers + ([""] if early else ["END 0", ""])), name
         (CRATES / "log_samples/data" / name).write_bytes(data)
-        output += f"{name}, blocks of 39\n{text}{name}, blocks of 65536\n{text}"
+        status = text.split()[-1]
+        output += "".join(f"{name}, blocks of {size}\n{text}status {status}\n" for size in (39, 65536))
         counts.update(re.sub(r"(FR|missing|list \w+) [1-9]\d*$", r"\1 n", line) for line in text.splitlines() if line[:4] != "5453")
         print(f"{name:16} {len(steps) - early:5} records {len(data):6} bytes, prints {len(text):6}")
         if name == "sample":
             assert (data, text) == (SAMPLE, SAMPLE_PRINTS)
             (CRATES / "log/stdin").write_bytes(data)
             (CRATES / "log/stdout").write_text(text)
-    (CRATES / "log_samples/args").write_text("\n".join(logs) + "\n")
+    # a folder can't be read: nothing is printed, not even the last line, and the status is 1
+    output += "".join(f"., blocks of {size}\nstatus 1\n" for size in (39, 65536))
+    (CRATES / "log_samples/args").write_text("\n".join([*logs, "."]) + "\n")
     (CRATES / "log_samples/stdout").write_text(output)
     assert set(counts) == set(SHAPES), set(counts) ^ set(SHAPES)
     for shape in SHAPES:

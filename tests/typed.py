@@ -23,16 +23,16 @@ def typed(kind, listing, end="\n"):
 
 
 def answer(text):
-    """What is put out for a text, on standard output or on standard error."""
+    """What is put out for a text, on standard output or on standard error, and the exit status."""
     if len(text) > 65535:
-        return TOO_LONG
+        return TOO_LONG, 2
     line = re.fullmatch(rb"(this|next) ((?:[0-9A-Fa-f]{2})*)\n?", text)
     if not line:
-        return UNCLEAR
+        return UNCLEAR, 2
     number, segments = write(bytes.fromhex(line[2].decode()), line[1].decode(), ENOUGH)
     if number:
-        return b"write: refused with %d\n" % number
-    return b"".join(b"SG" + segment for segment in segments)
+        return b"write: refused with %d\n" % number, number
+    return b"".join(b"SG" + segment for segment in segments), 0
 
 
 LONGEST = made(183)
@@ -61,13 +61,16 @@ def main():
     output = b""
     for name, text in TEXTS.items():
         (folder / "data" / name).write_bytes(text)
-        output += name.encode() + b"\n" + answer(text) + b"\n"
-        print(f"{name:20} {len(text):6} bytes, {answer(text)[:40]!r}")
-    (folder / "args").write_text("\n".join(TEXTS) + "\n")
+        said, status = answer(text)
+        output += b"%s\n%s\nstatus %d\n" % (name.encode(), said, status)
+        print(f"{name:20} {len(text):6} bytes, {status:2}, {said[:40]!r}")
+    # a folder can't be read
+    output += b".\n\nstatus 1\n"
+    (folder / "args").write_text("\n".join([*TEXTS, "."]) + "\n")
     (folder / "stdout").write_bytes(output)
     (CRATES / "write/stdin").write_bytes(TEXTS["longest_this"])
-    (CRATES / "write/stdout").write_bytes(answer(TEXTS["longest_this"]))
-    assert len(answer(TEXTS["longest_this"])) == 16 * 39
+    (CRATES / "write/stdout").write_bytes(answer(TEXTS["longest_this"])[0])
+    assert len(answer(TEXTS["longest_this"])[0]) == 16 * 39
 
 
 if __name__ == "__main__":

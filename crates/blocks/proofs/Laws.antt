@@ -1,26 +1,36 @@
 -- Laws of moving bytes, of what follows at a place, and of a state between two blocks. Assumes nothing.
 use mathlib.Core.Path.{_≡_, refl, sym, ap, ap₂, subst, _∙_}
-use mathlib.Core.Bool.{Bool, true, false, not, true≢false}
+use mathlib.Core.Bool.{Bool, true, false, cond, true≢false}
 use mathlib.Core.List.{List, [], _∷_, _++_, append-nil}
 use mathlib.Core.Logic.{_⊎_, inl, inr, ⊎-elim}
 use Prim.Native.Nat.{ℕ, _+_, _-_, _≤_, _<_}
 use native.Mathlib.Nat.{sub-zero}
 use native.Mathlib.Numerals.{add-one}
 use native.Mathlib.Omega.{arith}
-use borrow.Author.Tests.{eqb-true, eqb-false, eq-eqb, ne-eqb, not-true}
-use lib.Dec.{eqb}
+use lib.Dec.{T}
+use Rattle.octets.specs.Checks.{among}
 use lib.ListN.{length, getD, take, drop, set, length-drop, take-append-drop, drop-of-length-le}
 use lib.Seq.{take-suc, take-suc-set, take-take, take-add, take-at, drop-at, length-take-le, length-slice, drop-set-lt, drop-drop, getD-drop, length-sets, sets-eq}
-use Rattle.octets.proofs.Laws.{either}
 use Rattle.text.specs.Text.{Put}
 use Rattle.records.specs.declared.Entry.{Entry}
 use Rattle.records.specs.declared.Entry.the-variants.{End, Whole, Unknown, Cut}
-use Rattle.records.specs.Records.{Forms, entryIn, isWhole, lastLine, longestLast, Record}
+use Rattle.records.specs.Records.{Forms, entryIn, isWhole, endNumber, lastLine, longestLast, Record}
 use Rattle.records.specs.Transcripts.{Program, filled}
 use Rattle.records.proofs.Entries.{Within, entry-short, length-last}
 use Rattle.records.proofs.Transcripts.{filled-read, filled-room, filled-keeps}
+use Rattle.manners.specs.declared.Came.{Came}
+use Rattle.manners.specs.declared.Came.the-variants.{Bytes}
+use Rattle.manners.specs.declared.Came.the-variants.{End as CameEnd, Failed as CameFailed}
+use Rattle.manners.specs.declared.Sent.{Sent}
+use Rattle.manners.specs.declared.Sent.the-variants.{All, Gone, Failed}
+use Rattle.manners.specs.declared.Ending.{Ending}
+use Rattle.manners.specs.declared.Ending.the-variants.{Over, Spent}
+use Rattle.manners.specs.declared.Ending.the-variants.{Unheard as EndUnheard, NotRead as EndNotRead, NotWritten as EndNotWritten}
+use Rattle.manners.specs.Manners.{bytesIn, Room, statusOf}
+use Rattle.blocks.specs.declared.Step.{Step}
+use Rattle.blocks.specs.declared.Step.the-variants.{Next, Last, NotRead, Unheard, NotWritten}
 use Rattle.blocks.specs.declared.Unread.{Unread}
-use Rattle.blocks.specs.Blocks.{unread, Stays, Refilled, Advances, Follows, TurnSays}
+use Rattle.blocks.specs.Blocks.{mostTurns, unread, stepAfter, Stays, Brings, Refilled, Advances, Follows, Proceeds, TurnSays, Settles, Ends, runStatuses}
 
 -- ---- a byte moved down from the place from + i to the place i
 
@@ -72,40 +82,46 @@ module _ (block : List ℕ) (at have : ℕ) (ahead : at ≤ have) (inside : have
 
 -- ---- a read behind what was moved down
 
-equal-difference : (n m : ℕ) → n ≤ m → eqb m n ≡ eqb (m - n) 0
-equal-difference n m h =
-    either (eqb m n)
-    (λ t. t ∙ sym (eq-eqb (m - n) 0 (omega (arith, eqb-true m n t))))
-    (λ f. f ∙ sym (ne-eqb (m - n) 0 (λ z. eqb-false m n f (omega arith))))
+-- by what came, so many bytes being inside the block
+brings-came : (block have : ℕ) (came : Came) (brought : List ℕ) → Room block have came → length brought ≡ bytesIn came → Brings brought (stepAfter came)
+brings-came block have (Bytes n) brought room e = omega (arith, e, room .0)
+brings-came block have CameEnd brought room e = e
+brings-came block have CameFailed brought room e = e
 
-module _ (old moved new : List ℕ) (at have left more : ℕ) (room : have - at < length old) (count : left ≡ have - at) (move : take (have - at) moved ≡ unread old at have) where
-  pub refilled : length new ≡ length moved → (left ≤ more) × (more ≤ length moved) → take left new ≡ take left moved → Refilled old at have new (record { at = 0; have = more; over = eqb more left })
-  refilled same ends kept =
-      let inside : more ≤ length new = omega arith in
+pub came-inside : (block have : ℕ) (came : Came) → have ≤ block → Room block have came → have + bytesIn came ≤ block
+came-inside block have (Bytes n) h room = room .1
+came-inside block have CameEnd h room = omega arith
+came-inside block have CameFailed h room = omega arith
+
+module _ (old moved new : List ℕ) (at have left : ℕ) (came : Came) (u : Unread) (room : have - at < length old) (count : left ≡ have - at) (move : take (have - at) moved ≡ unread old at have) (kept : take left new ≡ take left moved) (long : length new ≡ length moved) (fits : Room (length moved) left came) (stands : (u .at ≡ 0) × (u .have ≡ left + bytesIn came) × (u .step ≡ stepAfter came)) where
+  pub refilled : left ≤ length moved → Refilled old at have new u
+  refilled most =
+      let more : ℕ = left + bytesIn came in
+      let inside : more ≤ length new = omega (arith, came-inside (length moved) left came most fits) in
       let rest : List ℕ = drop left (take more new) in
       record {
         brought = rest;
         room = omega arith;
-        start = refl;
-        inside = inside;
+        start = stands .0;
+        inside = rw (stands .1) inside;
         bytes =
-            ap (λ (n : ℕ). take n new) (sub-zero more)
+            ap (λ (n : ℕ). take n new) (sub-zero (u .have) ∙ stands .1)
             ∙ sym (take-append-drop left (take more new))
-            ∙ ap (λ (t : List ℕ). t ++ rest) (take-take left more new (ends .0) ∙ kept ∙ ap (λ (n : ℕ). take n moved) count ∙ move);
-        over = equal-difference left more (ends .0) ∙ ap (λ (n : ℕ). eqb n 0) (sym (length-slice left more new inside));
+            ∙ ap (λ (t : List ℕ). t ++ rest) (take-take left more new (omega arith) ∙ kept ∙ ap (λ (n : ℕ). take n moved) count ∙ move);
+        brings = rw (stands .2) (brings-came (length moved) left came rest fits (omega (arith, length-slice left more new inside)));
       }
 
 -- ---- what follows at a place, by what stands there
 
-pub stays : (old : List ℕ) (at have : ℕ) (over : Bool) (u : Unread) → (u .at ≡ at) × (u .have ≡ have) × (u .over ≡ over) → Stays old at have over old u
-stays old at have over u e = (refl, rw (← e .0, ← e .1, ← e .2) refl)
+pub stays : (old : List ℕ) (at have : ℕ) (step : Step) (u : Unread) → (u .at ≡ at) × (u .have ≡ have) × (u .step ≡ step) → Stays old at have step old u
+stays old at have step u e = (refl, rw (← e .0, ← e .1, ← e .2) refl)
 
 pub advances : {f : Entry} (old : List ℕ) (at have : ℕ) (new : List ℕ) (u : Unread) (e : Entry) → e ≡ f → Advances f old at have new u → Advances e old at have new u
 advances old at have new u e is = subst (λ (k : Entry). Advances k old at have new u) (sym is)
 
 -- what `entry_at` says of a place in the filled part of a block is so of what is unread there
 module _ (forms : Forms) (old : List ℕ) (at have : ℕ) (ahead : at ≤ have) (inside : have ≤ length old) (e : Entry) (stands : e ≡ entryIn forms (drop at (take have old))) where
-  stands-unread : e ≡ entryIn forms (unread old at have)
+  pub stands-unread : e ≡ entryIn forms (unread old at have)
   stands-unread = stands ∙ ap (entryIn forms) (unread-front old at have ahead inside)
 
   pub follows : (new : List ℕ) (u : Unread) → Advances e old at have new u → Follows forms old at have new u
@@ -116,29 +132,54 @@ module _ (forms : Forms) (old : List ℕ) (at have : ℕ) (ahead : at ≤ have) 
   room-for-more longest within long short =
       omega (arith, entry-short forms longest within (unread old at have) e stands-unread short, unread-length old at have ahead inside)
 
+-- the input is at its end, or could not be read
+abbrev pub noMore : Step → Bool
+noMore Next = false
+noMore Last = true
+noMore NotRead = true
+noMore Unheard = false
+noMore NotWritten = false
+
+stays-whole : (e : Entry) → noMore (cond (isWhole e) Next Last) ≡ true → isWhole e ≡ false
+stays-whole (Whole n) t = absurd (true≢false (sym t))
+stays-whole End t = refl
+stays-whole Unknown t = refl
+stays-whole Cut t = refl
+
+brings-none : (brought : List ℕ) (step : Step) → Brings brought step → noMore step ≡ true → length brought ≡ 0
+brings-none brought Next b t = absurd (true≢false (sym t))
+brings-none brought Last b t = b
+brings-none brought NotRead b t = b
+brings-none brought Unheard b t = absurd b
+brings-none brought NotWritten b t = absurd b
+
 -- a place stays, or what stands there is no whole record and a read follows
 module _ (old : List ℕ) (at have : ℕ) (new : List ℕ) (u : Unread) where
-  advances-cases : (e : Entry) → Advances e old at have new u → Stays old at have (not (isWhole e)) new u ⊎ ((isWhole e ≡ false) × Refilled old at have new u)
+  advances-cases : (e : Entry) → Advances e old at have new u → Stays old at have (cond (isWhole e) Next Last) new u ⊎ ((isWhole e ≡ false) × Refilled old at have new u)
   advances-cases (Whole n) g = inl g
   advances-cases Unknown g = inl g
   advances-cases End g = inr (refl, g)
   advances-cases Cut g = inr (refl, g)
 
-  stays-place : (over : Bool) → Stays old at have over new u → at ≤ have → have ≤ length old → (u .at ≤ u .have) × (u .have ≤ length new)
-  stays-place over g ahead inside = rw (g .0, g .1) (ahead, inside)
+  pub stays-place : (step : Step) → Stays old at have step new u → at ≤ have → have ≤ length old → (u .at ≤ u .have) × (u .have ≤ length new)
+  stays-place step g ahead inside = rw (g .0, g .1) (ahead, inside)
 
   module _ (forms : Forms) (f : Follows forms old at have new u) where
     follows-place : at ≤ have → have ≤ length old → (u .at ≤ u .have) × (u .have ≤ length new)
     follows-place ahead inside =
         ⊎-elim (λ g. stays-place _ g ahead inside) (λ g. omega (arith, g .1 .start, g .1 .inside)) (advances-cases (entryIn forms (unread old at have)) f)
 
-    follows-over : u .over ≡ true → isWhole (entryIn forms (unread new (u .at) (u .have))) ≡ false
+    follows-over : noMore (u .step) ≡ true → isWhole (entryIn forms (unread new (u .at) (u .have))) ≡ false
     follows-over over =
-        ⊎-elim (λ g. rw (g .0, g .1) (not-true _ (rw (g .1) at over)))
+        ⊎-elim (λ g. rw (g .0, g .1) (stays-whole (entryIn forms (unread old at have)) (rw (g .1) at over)))
         (λ g.
-        let none : g .1 .brought ≡ [] = drop-of-length-le (g .1 .brought) {i = 0} (omega (arith, eqb-true (length (g .1 .brought)) 0 (sym (g .1 .over) ∙ over))) in
+        let none : g .1 .brought ≡ [] = drop-of-length-le (g .1 .brought) {i = 0} (omega (arith, brings-none (g .1 .brought) (u .step) (g .1 .brings) over)) in
         rw (g .1 .start, g .1 .bytes, none, append-nil) (g .0))
         (advances-cases (entryIn forms (unread old at have)) f)
+
+-- by what came of a write
+pub proceeds : {f : Sent} (e : Entry) (old : List ℕ) (at next have : ℕ) (new : List ℕ) (u : Unread) (sent : Sent) → sent ≡ f → Proceeds f e old at next have new u → Proceeds sent e old at next have new u
+proceeds e old at next have new u sent is = subst (λ (k : Sent). Proceeds k e old at next have new u) (sym is)
 
 -- ---- a turn: the unread part xs of a block was filled
 
@@ -156,52 +197,76 @@ module _ {S : Type 0} (p : Program S) (s t : S) (xs out after : List ℕ) (read 
   filled-inside fits = put-inside (filled p (length out) s xs .text) out after wrote (says .2) (filled-room p fits (length out) s xs)
 
   module _ (old : List ℕ) (at have : ℕ) (new : List ℕ) (u : Unread) where
-    pub turn-lost : Stays old at have false new u → TurnSays (p .forms) (filled p (length out) s xs) old at have out t new after wrote true u
-    turn-lost g = record { state = says .0; text = says .2; place = λ e. absurd (true≢false e); lost = λ e. g }
+    -- what stands behind the records, and what came of writing them
+    pub turn-says : (e : Entry) → e ≡ entryIn (p .forms) (unread old (at + read) have) → (sent : Sent) → Proceeds sent e old at (at + read) have new u → TurnSays (p .forms) (filled p (length out) s xs) old at have out t new after wrote u
+    turn-says e stands sent g = record { state = says .0; text = says .2; place = place sent g }
+      where
+        place : (sent : Sent) → Proceeds sent e old at (at + read) have new u → Follows (p .forms) old (at + filled p (length out) s xs .read) have new u ⊎ (Stays old at have Unheard new u ⊎ Stays old at have NotWritten new u)
+        place All g = inl (subst (λ (n : ℕ). Follows (p .forms) old (at + n) have new u) (says .1) (subst (λ (k : Entry). Advances k old (at + read) have new u) stands g))
+        place Gone g = inr (inl g)
+        place Failed g = inr (inr g)
 
-    pub turn-passed : Follows (p .forms) old (at + read) have new u → TurnSays (p .forms) (filled p (length out) s xs) old at have out t new after wrote false u
-    turn-passed g =
-        record {
-          state = says .0;
-          text = says .2;
-          place = λ e. subst (λ (n : ℕ). Follows (p .forms) old (at + n) have new u) (says .1) g;
-          lost = λ e. absurd (true≢false (sym e));
-        }
+-- ---- after a turn the state is in order, the unread part is inside the block, and where no more comes no whole record stands
 
--- ---- after a turn the state is in order, the unread part is inside the block, and where it is over no whole record stands
-
-pub record Keeps {S : Type 0} (Ready : S → Type 0) (forms : Forms) (t : S) (new : List ℕ) (failed : Bool) (u : Unread) : Type 0 where
+pub record Keeps {S : Type 0} (Ready : S → Type 0) (forms : Forms) (t : S) (new : List ℕ) (u : Unread) : Type 0 where
   pub ready : Ready t
   pub ahead : u .at ≤ u .have
   pub inside : u .have ≤ length new
-  pub over : failed ≡ false → u .over ≡ true → isWhole (entryIn forms (unread new (u .at) (u .have))) ≡ false
+  pub over : noMore (u .step) ≡ true → isWhole (entryIn forms (unread new (u .at) (u .have))) ≡ false
 
 module _ {S : Type 0} (p : Program S) (Ready : S → Type 0) (keeps : (s : S) (r : Record) → Ready s → Ready (p .next s r)) where
-  pub turn-keeps : (room : ℕ) (s : S) (old : List ℕ) (at have : ℕ) (before : List ℕ) (t : S) (new after : List ℕ) (wrote : ℕ) (failed : Bool) (u : Unread) → TurnSays (p .forms) (filled p room s (unread old at have)) old at have before t new after wrote failed u → Ready s → at ≤ have → have ≤ length old → Keeps Ready (p .forms) t new failed u
-  turn-keeps room s old at have before t new after wrote failed u says in-order ahead inside =
+  pub turn-keeps : (room : ℕ) (s : S) (old : List ℕ) (at have : ℕ) (before : List ℕ) (t : S) (new after : List ℕ) (wrote : ℕ) (u : Unread) → TurnSays (p .forms) (filled p room s (unread old at have)) old at have before t new after wrote u → Ready s → at ≤ have → have ≤ length old → Keeps Ready (p .forms) t new u
+  turn-keeps room s old at have before t new after wrote u says in-order ahead inside =
       let xs : List ℕ = unread old at have in
       let next : ℕ = at + filled p room s xs .read in
       let most : next ≤ have = omega (arith, filled-read p room s xs, unread-length old at have ahead inside) in
       let place : (u .at ≤ u .have) × (u .have ≤ length new) =
-      either failed (λ e. stays-place old at have new u false (says .lost e) ahead inside)
-      (λ e. follows-place old next have new u (p .forms) (says .place e) most inside) in
+      ⊎-elim (λ g. follows-place old next have new u (p .forms) g most inside) (⊎-elim (stuck Unheard) (stuck NotWritten)) (says .place) in
       record {
         ready = subst Ready (sym (says .state)) (filled-keeps p Ready keeps room s xs in-order);
         ahead = place .0;
         inside = place .1;
-        over = λ e. follows-over old next have new u (p .forms) (says .place e);
+        over = λ e. ⊎-elim (λ g. follows-over old next have new u (p .forms) g e) (⊎-elim (λ g. absurd (true≢false (sym (rw (g .1) at e)))) (λ g. absurd (true≢false (sym (rw (g .1) at e))))) (says .place);
       }
+    where
+      stuck : (step : Step) → Stays old at have step new u → (u .at ≤ u .have) × (u .have ≤ length new)
+      stuck step g = stays-place old at have new u step g ahead inside
 
--- ---- the last line, put to the start of an output for what stands at a place of a block
+-- ---- the end of a run
 
-module _ (forms : Forms) (block : List ℕ) (at have : ℕ) (ahead : at ≤ have) (inside : have ≤ length block) (e : Entry) (stands : e ≡ entryIn forms (drop at (take have block))) (out after : List ℕ) (end : ℕ) (p : Put (lastLine e) out 0 after end) (fits : longestLast ≤ length out) where
+-- where it ends at a step
+pub settles : {f : Step} (e : Entry) (out : List ℕ) (r : Ending) (step : Step) → step ≡ f → Settles f e out r → Settles step e out r
+settles e out r step is = subst (λ (k : Step). Settles k e out r) (sym is)
+
+pub ends : (step : Step) (e : Entry) (turns : ℕ) (out : List ℕ) (r : Ending) → Settles step e out r → (noMore step ≡ true → isWhole e ≡ false) → (step ≡ Next → turns ≡ mostTurns) → Ends r turns e out
+ends Next e turns out r g over spent = rw g (spent refl)
+ends Last e turns out r (line, inl g) over spent = rw g (over refl, refl, line)
+ends Last e turns out r (line, inr (inl g)) over spent = rw g tt
+ends Last e turns out r (line, inr (inr g)) over spent = rw g tt
+ends NotRead e turns out r g over spent = rw g (over refl)
+ends Unheard e turns out r g over spent = rw g tt
+ends NotWritten e turns out r g over spent = rw g tt
+
+end-status : (e : Entry) → T (among runStatuses (endNumber e))
+end-status End = tt
+end-status (Whole n) = tt
+end-status Unknown = tt
+end-status Cut = tt
+
+pub ends-status : (r : Ending) (turns : ℕ) (e : Entry) (out : List ℕ) → Ends r turns e out → T (among runStatuses (statusOf r))
+ends-status (Over n) turns e out g = rw (g .1) (end-status e)
+ends-status EndNotRead turns e out g = tt
+ends-status EndUnheard turns e out g = tt
+ends-status EndNotWritten turns e out g = tt
+ends-status Spent turns e out g = tt
+
+-- the last line, put to the start of an output
+module _ (e : Entry) (out after : List ℕ) (end : ℕ) (p : Put (lastLine e) out 0 after end) (fits : longestLast ≤ length out) where
   last-fits : length (lastLine e) ≤ length out
   last-fits = omega (arith, length-last e)
 
   pub last-inside : end ≤ length after
   last-inside = put-inside (lastLine e) out after end p last-fits
 
-  pub last-front : let l = lastLine (entryIn forms (unread block at have)) in take (length l) after ≡ l
-  last-front =
-      subst (λ (k : Entry). take (length (lastLine k)) after ≡ lastLine k) (stands-unread forms block at have ahead inside e stands)
-      (put-front (lastLine e) out after end p last-fits)
+  pub last-front : take (length (lastLine e)) after ≡ lastLine e
+  last-front = put-front (lastLine e) out after end p last-fits

@@ -1,6 +1,6 @@
 -- A whole run: whatever the reads bring and however they cut it, turns enough write the transcript of the whole file. Assumes nothing.
 use mathlib.Core.Path.{_≡_, refl, sym, ap, _∙_}
-use mathlib.Core.Bool.{true, false, true≢false}
+use mathlib.Core.Bool.{Bool, true, false, true≢false}
 use mathlib.Core.Logic.{inr}
 use mathlib.Core.List.{List, [], _∷_, _++_, append-assoc, append-nil}
 use Prim.Native.Nat.{ℕ, zero, suc, _-_, _≤_, _<_}
@@ -10,10 +10,16 @@ use Rattle.octets.proofs.Laws.{either}
 use Rattle.records.specs.declared.Entry.{Entry}
 use Rattle.records.specs.declared.Entry.the-variants.{End, Whole, Unknown, Cut}
 use Rattle.records.specs.Records.{entryIn, isWhole, lastLine}
-use Rattle.records.specs.Transcripts.{Program, printed, Filled, filled}
+use Rattle.records.specs.Transcripts.{Program, printedWith, Filled, filled}
 use Rattle.records.proofs.Entries.{entry-more, whole-some}
 use Rattle.records.proofs.Transcripts.{printed-last, filled-record, filled-stop, filled-read, filled-printed}
-use Rattle.blocks.specs.Turns.{broughtBy, Turns, afterRead, goesOn, turned, enough}
+use Rattle.blocks.specs.Turns.{Reading, brings, fails, broughtBy, failsIn, lastWritten, Turns, afterRead, goesOn, turned, enough}
+
+abbrev unknown : Entry → Bool
+unknown (Whole n) = false
+unknown End = false
+unknown Unknown = true
+unknown Cut = false
 
 module _ {S : Type 0} (p : Program S) where
   abbrev here : List ℕ → Entry
@@ -26,26 +32,43 @@ module _ {S : Type 0} (p : Program S) where
       (λ t. absurd (true≢false (sym (rw (filled-stop p room s xs t) at w) ∙ t)))
 
   -- where no whole record stands, the last line is all
-  ends-printed : (s : S) (xs : List ℕ) (e : Entry) → here xs ≡ e → isWhole e ≡ false → lastLine e ≡ printed p s xs
-  ends-printed s xs e is w = sym (printed-last p s xs (ap isWhole is ∙ w) ∙ ap lastLine is)
+  ends-printed : (last : Entry → List ℕ) (s : S) (xs : List ℕ) (e : Entry) → here xs ≡ e → isWhole e ≡ false → last e ≡ printedWith last p s xs
+  ends-printed last s xs e is w = sym (printed-last p last s xs (ap isWhole is ∙ w) ∙ ap last is)
+
+  -- what is written behind the last record, by the reads
+  abbrev lastIn : List Reading → Entry → List ℕ
+  lastIn reads = lastWritten (failsIn reads)
+
+  -- an unknown mark is told however the reads end, and anything else not where one fails
+  unknown-written : (failed : Bool) → lastLine Unknown ≡ lastWritten failed Unknown
+  unknown-written true = refl
+  unknown-written false = refl
+
+  none-written : (e : Entry) → isWhole e ≡ false → (e ≡ Unknown → ⊥) → [] ≡ lastWritten true e
+  none-written (Whole n) w u = refl
+  none-written End w u = refl
+  none-written Cut w u = refl
+  none-written Unknown w u = absurd (u refl)
 
   -- behind the records of a turn, ys being unread: the turns that follow print what is left wherever they are enough
-  module _ (n : ℕ) (s : S) (more : Turns) (prints : (zs : List ℕ) (later : List (List ℕ)) → enough zs later ≤ n → more zs later ≡ printed p s (zs ++ broughtBy later)) (ys : List ℕ) where
-    read-printed : (e : Entry) → here ys ≡ e → isWhole e ≡ false → (reads : List (List ℕ)) → enough ys reads ≤ suc n → afterRead e more ys reads ≡ printed p s (ys ++ broughtBy reads)
-    read-printed e is w [] h = rw append-nil (ends-printed s ys e is w)
-    read-printed e is w ([] ∷ later) h = rw append-nil (ends-printed s ys e is w)
-    read-printed e is w ((b ∷ bs) ∷ later) h =
+  module _ (n : ℕ) (s : S) (more : Turns) (prints : (zs : List ℕ) (later : List Reading) → enough zs later ≤ n → more zs later ≡ printedWith (lastIn later) p s (zs ++ broughtBy later)) (ys : List ℕ) where
+    read-printed : (e : Entry) → here ys ≡ e → isWhole e ≡ false → (e ≡ Unknown → ⊥) → (reads : List Reading) → enough ys reads ≤ suc n → afterRead e more ys reads ≡ printedWith (lastIn reads) p s (ys ++ broughtBy reads)
+    read-printed e is w u [] h = rw append-nil (ends-printed lastLine s ys e is w)
+    read-printed e is w u (fails ∷ later) h = rw append-nil (none-written e w u ∙ ends-printed (lastWritten true) s ys e is w)
+    read-printed e is w u (brings [] ∷ later) h = rw append-nil (ends-printed lastLine s ys e is w)
+    read-printed e is w u (brings (b ∷ bs) ∷ later) h =
         let read : List ℕ = b ∷ bs in
-        prints (ys ++ read) later (omega (arith, length-append ys read, length-append read (broughtBy later))) ∙ ap (printed p s) (append-assoc ys read (broughtBy later))
+        prints (ys ++ read) later (omega (arith, length-append ys read, length-append read (broughtBy later))) ∙ ap (printedWith (lastIn later) p s) (append-assoc ys read (broughtBy later))
 
-    goes-printed : (e : Entry) → here ys ≡ e → (reads : List (List ℕ)) → enough ys reads ≤ suc n → (isWhole e ≡ true → enough ys reads ≤ n) → goesOn e more ys reads ≡ printed p s (ys ++ broughtBy reads)
+    goes-printed : (e : Entry) → here ys ≡ e → (reads : List Reading) → enough ys reads ≤ suc n → (isWhole e ≡ true → enough ys reads ≤ n) → goesOn e more ys reads ≡ printedWith (lastIn reads) p s (ys ++ broughtBy reads)
     goes-printed (Whole size) is reads h w = prints ys reads (w refl)
     goes-printed Unknown is reads h w =
-        ends-printed s (ys ++ broughtBy reads) Unknown (entry-more (p .forms) ys (broughtBy reads) (inr is) ∙ is) refl
-    goes-printed End is reads h w = read-printed End is refl reads h
-    goes-printed Cut is reads h w = read-printed Cut is refl reads h
+        unknown-written (failsIn reads)
+        ∙ ends-printed (lastIn reads) s (ys ++ broughtBy reads) Unknown (entry-more (p .forms) ys (broughtBy reads) (inr is) ∙ is) refl
+    goes-printed End is reads h w = read-printed End is refl (λ e. absurd (true≢false (sym (ap unknown e)))) reads h
+    goes-printed Cut is reads h w = read-printed Cut is refl (λ e. absurd (true≢false (sym (ap unknown e)))) reads h
 
-  pub turned-printed : (room : ℕ) (s : S) (xs : List ℕ) (reads : List (List ℕ)) (n : ℕ) → p .longest ≤ room → enough xs reads ≤ n → turned p room n s xs reads ≡ printed p s (xs ++ broughtBy reads)
+  pub turned-printed : (room : ℕ) (s : S) (xs : List ℕ) (reads : List Reading) (n : ℕ) → p .longest ≤ room → enough xs reads ≤ n → turned p room n s xs reads ≡ printedWith (lastWritten (failsIn reads)) p s (xs ++ broughtBy reads)
   unfolding turned
   turned-printed room s xs reads zero r h = absurd (omega arith)
   turned-printed room s xs reads (suc n) r h =
@@ -55,4 +78,4 @@ module _ {S : Type 0} (p : Program S) where
       ap (λ (t : List ℕ). f .text ++ t)
       (goes-printed n (f .state) (turned p room n (f .state)) (λ zs later g. turned-printed room (f .state) zs later n r g) ys (here ys) refl reads (omega arith)
       (λ w. omega (arith, filled-some room s xs r w, filled-read p room s xs)))
-      ∙ sym (filled-printed p room s xs (broughtBy reads))
+      ∙ sym (filled-printed p (lastIn reads) room s xs (broughtBy reads))

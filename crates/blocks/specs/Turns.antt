@@ -1,5 +1,6 @@
--- A whole run as its turns make it: what is written, given what each read brings. A turn is that of Blocks.antt.
+-- A whole run as its turns make it: what is written, given what each read gives. A turn is that of Blocks.antt.
 use Prim.Native.Nat.{ℕ, zero, suc, _+_}
+use mathlib.Core.Bool.{Bool, true, false}
 use mathlib.Core.List.{List, [], _∷_, _++_}
 use lib.ListN.{length, drop}
 use Rattle.records.specs.declared.Entry.{Entry}
@@ -7,21 +8,43 @@ use Rattle.records.specs.declared.Entry.the-variants.{End, Whole, Unknown, Cut}
 use Rattle.records.specs.Records.{entryIn, lastLine}
 use Rattle.records.specs.Transcripts.{Program, filled}
 
--- the file that some reads bring: up to the first that brings nothing
-abbrev pub broughtBy : List (List ℕ) → List ℕ
+-- what a read gives: some bytes, none at the end of the file, or a failure
+pub data Reading : Type 0 where
+  brings : List ℕ → Reading
+  fails : Reading
+
+-- the file that some reads bring: up to the first that brings nothing or fails
+abbrev pub broughtBy : List Reading → List ℕ
 broughtBy [] = []
-broughtBy ([] ∷ later) = []
-broughtBy ((b ∷ bs) ∷ later) = (b ∷ bs) ++ broughtBy later
+broughtBy (fails ∷ later) = []
+broughtBy (brings [] ∷ later) = []
+broughtBy (brings (b ∷ bs) ∷ later) = (b ∷ bs) ++ broughtBy later
+
+-- whether the first that brings nothing fails
+abbrev pub failsIn : List Reading → Bool
+failsIn [] = false
+failsIn (fails ∷ later) = true
+failsIn (brings [] ∷ later) = false
+failsIn (brings (b ∷ bs) ∷ later) = failsIn later
+
+-- what is written behind the last record: the last line; where the input fails, none but that of an unknown mark, behind which nothing is read
+abbrev pub lastWritten : Bool → Entry → List ℕ
+lastWritten false e = lastLine e
+lastWritten true Unknown = lastLine Unknown
+lastWritten true End = []
+lastWritten true Cut = []
+lastWritten true (Whole n) = []
 
 -- what the turns that follow write, by what is unread and the reads that are to come
 abbrev pub Turns : Type 0
-Turns = List ℕ → List (List ℕ) → List ℕ
+Turns = List ℕ → List Reading → List ℕ
 
--- what is written after a read where e stands at the start of the unread ys: the last line if the read brings nothing
+-- what is written after a read where e stands at the start of the unread ys: the last line if the read brings nothing, and nothing if it fails
 abbrev pub afterRead : Entry → Turns → Turns
 afterRead e more ys [] = lastLine e
-afterRead e more ys ([] ∷ later) = lastLine e
-afterRead e more ys ((b ∷ bs) ∷ later) = more (ys ++ (b ∷ bs)) later
+afterRead e more ys (fails ∷ later) = []
+afterRead e more ys (brings [] ∷ later) = lastLine e
+afterRead e more ys (brings (b ∷ bs) ∷ later) = more (ys ++ (b ∷ bs)) later
 
 -- what is written behind the records of a turn, by what stands at the start of the unread ys
 abbrev pub goesOn : Entry → Turns → Turns
@@ -39,5 +62,5 @@ turned p room (suc n) s xs reads =
     f .text ++ goesOn (entryIn (p .forms) ys) (turned p room n (f .state)) ys reads
 
 -- turns enough for any reads: every turn but the last leaves a record behind it or takes what a read brought
-abbrev pub enough : List ℕ → List (List ℕ) → ℕ
+abbrev pub enough : List ℕ → List Reading → ℕ
 enough xs reads = suc (length xs + (length (broughtBy reads) + length reads))

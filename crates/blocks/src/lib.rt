@@ -1,24 +1,37 @@
 // A file of records is read through a block: what is unread is kept, and more is read behind it.
+use manners::Came;
+use manners::Ending;
+use manners::Sent;
 use records::Entry;
 ghost use mathlib.Core.Path.{_≡_};
 ghost use mathlib.Core.Logic.{_⊎_};
 ghost use Prim.Native.Nat.{_+_, _-_, _≤_, _<_};
 ghost use lib.ListN.{length, take, drop};
-ghost use Rattle.blocks.specs.Blocks.{Refilled, Advances};
+ghost use Rattle.blocks.specs.Blocks.{stepAfter, Refilled, Advances, Proceeds, stopsAt, Settles};
+ghost use Rattle.records.specs.Records.{longestLast};
 
-// The unread part of a block: from at up to have. It is over if no more can come.
+// What a turn leaves to be done.
+pub enum Step {
+    // the next turn
+    Next,
+    // the last line: no more can come
+    Last,
+    // nothing: the input could not be read
+    NotRead,
+    // nothing: whoever read the output has gone away
+    Unheard,
+    // nothing: the output could not be written
+    NotWritten,
+}
+
+// The unread part of a block: from at up to have; and what is to be done next.
 pub struct Unread {
     pub at: usize,
     pub have: usize,
-    pub over: bool,
+    pub step: Step,
 }
 
-// How a run ended: the last line was put out; or something could not be written; or its turns were spent.
-pub enum Ending {
-    Over,
-    Unwritten,
-    Spent,
-}
+// ---- one turn
 
 // Moves the bytes from a place up to an end down to the start; how many they are.
 fn move_down(block: &mut [u8], from: usize, end: usize) -> usize
@@ -35,15 +48,15 @@ fn move_down(block: &mut [u8], from: usize, end: usize) -> usize
     count
 }
 
-// Reads once, behind the bytes that the block has, where there is room; how many it then has.
-fn read_more(from: i32, block: &mut [u8], have: usize) -> usize
-    requires { ⌜ have < length (now block) ⌝ }
-    ensures { λ r. ⌜ (have ≤ r) × (r ≤ length (now (block .entry))) ⌝ }
-    ensures { λ _. ⌜ take have (now (block .exit)) ≡ take have (now (block .entry)) ⌝ }
+// What is to be done after a read.
+fn step_after(came: Came) -> Step
+    ensures { λ r. ⌜ r ≡ stepAfter came ⌝ }
 {
-    let part = &mut block[have..];
-    let got = libc::read(from, part);
-    have + io::count(got, part)
+    match came {
+        Came::Bytes(_) => Step::Next,
+        Came::End => Step::Last,
+        Came::Failed => Step::NotRead,
+    }
 }
 
 // Reads more behind what is unread, which comes to the start of the block and is kept byte for byte.
@@ -52,36 +65,92 @@ fn refill(from: i32, block: &mut [u8], at: usize, have: usize) -> Unread
     ensures { λ r. ⌜ Refilled (now (block .entry)) at have (now (block .exit)) r ⌝ }
 {
     let left = move_down(block, at, have);
-    let more = read_more(from, block, left);
-    Unread {
-        at: 0,
-        have: more,
-        over: more == left,
-    }
+    let came = manners::read_behind(from, block, left);
+    stay(0, left + manners::bytes_in(came), step_after(came))
 }
 
 // The place stays.
-pub fn stay(at: usize, have: usize, over: bool) -> Unread
-    ensures { λ r. ⌜ (r .at ≡ at) × (r .have ≡ have) × (r .over ≡ over) ⌝ }
+fn stay(at: usize, have: usize, step: Step) -> Unread
+    ensures { λ r. ⌜ (r .at ≡ at) × (r .have ≡ have) × (r .step ≡ step) ⌝ }
 {
     Unread {
         at: at,
         have: have,
-        over: over,
+        step: step,
     }
 }
 
 // What follows at a place of the block where this entry stands, the records before it being printed: a record waits there, or more has to be
 // read, or it is over. The unread part of an entry that needs more leaves room in the block.
-pub fn advance(from: i32, block: &mut [u8], at: usize, have: usize, entry: Entry) -> Unread
+fn advance(from: i32, block: &mut [u8], at: usize, have: usize, entry: Entry) -> Unread
     requires { ⌜ (at ≤ have) × (have ≤ length (now block)) ⌝ }
     requires { ⌜ ((entry ≡ Entry.End) ⊎ (entry ≡ Entry.Cut) → have - at < length (now block)) ⌝ }
     ensures { λ r. ⌜ Advances entry (now (block .entry)) at have (now (block .exit)) r ⌝ }
 {
     match entry {
-        Entry::Whole(_) => stay(at, have, false),
-        Entry::Unknown => stay(at, have, true),
+        Entry::Whole(_) => stay(at, have, Step::Next),
+        Entry::Unknown => stay(at, have, Step::Last),
         Entry::End => refill(from, block, at, have),
         Entry::Cut => refill(from, block, at, have),
+    }
+}
+
+// What follows once the records between two places were written, or could not be.
+pub fn proceed(
+    sent: Sent,
+    from: i32,
+    block: &mut [u8],
+    at: usize,
+    next: usize,
+    have: usize,
+    entry: Entry,
+) -> Unread
+    requires { ⌜ (next ≤ have) × (have ≤ length (now block)) ⌝ }
+    requires { ⌜ ((entry ≡ Entry.End) ⊎ (entry ≡ Entry.Cut) → have - next < length (now block)) ⌝ }
+    ensures { λ r. ⌜ Proceeds sent entry (now (block .entry)) at next have (now (block .exit)) r ⌝ }
+{
+    match sent {
+        Sent::All => advance(from, block, next, have, entry),
+        Sent::Gone => stay(at, have, Step::Unheard),
+        Sent::Failed => stay(at, have, Step::NotWritten),
+    }
+}
+
+// ---- the end of a run
+
+// Whether a step is the end of the run.
+pub fn stops(step: Step) -> bool
+    ensures { λ r. ⌜ r ≡ stopsAt step ⌝ }
+{
+    match step {
+        Step::Next => false,
+        Step::Last => true,
+        Step::NotRead => true,
+        Step::Unheard => true,
+        Step::NotWritten => true,
+    }
+}
+
+// Puts out the last line.
+fn close(entry: Entry, out: &mut [u8], to: i32) -> Ending
+    requires { ⌜ longestLast ≤ length (now out) ⌝ }
+    ensures { λ r. ⌜ Settles Step.Last entry (now (out .exit)) r ⌝ }
+{
+    let n = records::put_last(entry, out);
+    let sent = manners::write_out(to, &out[..n]);
+    manners::ended(sent, records::end_number(entry))
+}
+
+// Ends a run at a step, where this entry stands.
+pub fn settle(step: Step, entry: Entry, out: &mut [u8], to: i32) -> Ending
+    requires { ⌜ longestLast ≤ length (now out) ⌝ }
+    ensures { λ r. ⌜ Settles step entry (now (out .exit)) r ⌝ }
+{
+    match step {
+        Step::Next => Ending::Spent,
+        Step::Last => close(entry, out, to),
+        Step::NotRead => Ending::NotRead,
+        Step::Unheard => Ending::Unheard,
+        Step::NotWritten => Ending::NotWritten,
     }
 }

@@ -35,7 +35,7 @@ use Rattle.desk.specs.Desks.{segmentAfter}
 use Rattle.desk.specs.Calls.{Call, State, state, wholly, shownIn, leftBy, ranBy, ran, answersOf}
 use Rattle.effects.proofs.Frames.{listed-shown}
 use Rattle.lines.specs.Lines.{answerLines}
-use Rattle.replay.specs.Log.{logForm, callOf, linesOf, printed}
+use Rattle.replay.specs.Log.{logForm, callOf, linesOf, printed, printedWith}
 use Rattle.gatherings.specs.Deliveries.{AtStart}
 use Rattle.gatherings.specs.Once.{different, pieceAnswer, pieceAnswers}
 use Rattle.gatherings.proofs.Rounds.{segments-delivered}
@@ -124,7 +124,7 @@ module _ (k : Kind) (xs : List ℕ) (n : ℕ) where
         after more (tail-eq-of-cons-eq is) shows)
 
     order-printed : (segments : List (List ℕ)) → Each (λ x. length x ≡ segmentBytes) segments → let r = ran s (map (wholly s) segments) in answersOf (r .told) ≡ pieceAnswers n k (length xs) [] (upFrom 0 n) → shownIn k (r .left) ≡ xs → printed s (logOf segments) ≡ flatMap (λ a. answerLines a xs) (pieceAnswers n k (length xs) [] (upFrom 0 n)) ++ text "END 0\n"
-    unfolding printed lastLine decimal decimalIn
+    unfolding printedWith lastLine decimal decimalIn
     order-printed segments h is shows =
         ap (λ (f : File). flatMap linesOf (ran s (map (callOf s) (f .records)) .told) ++ lastLine (f .end)) (log-records segments h)
         ∙ ap (λ (cs : List Call). flatMap linesOf (ran s cs .told) ++ text "END 0\n") (calls-same s segments)

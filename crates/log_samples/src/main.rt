@@ -1,5 +1,6 @@
-// Prints the transcript of each stored log that the arguments name, twice: read in blocks of one record, and in large ones.
+// Prints the transcript of each stored log that the arguments name, and the status, twice: read in blocks of one record, and in large ones.
 use libc::STDOUT_FILENO;
+use manners::Ending;
 
 fn say(text: &[u8]) {
     io::write_all(STDOUT_FILENO, text);
@@ -18,13 +19,20 @@ fn open(name: &[u8], blocks: u64) -> i32 {
     log
 }
 
+// Says the status of a program that ended so.
+fn end(ending: Ending) {
+    say(b"status ");
+    io::print_decimal(STDOUT_FILENO, manners::status_of(ending) as u64);
+    say(b"\n");
+}
+
 fn run_slowly(name: &[u8]) {
     let log = open(name, 39);
     if log < 0 {
         return;
     }
     let mut block = [0u8; 39];
-    stream::copy_slowly(log, STDOUT_FILENO, &mut block);
+    end(stream::copy_slowly(log, STDOUT_FILENO, &mut block));
     libc::close(log);
 }
 
@@ -34,7 +42,7 @@ fn run(name: &[u8]) {
         return;
     }
     let mut block = io::large_buffer();
-    stream::copy(log, STDOUT_FILENO, &mut block);
+    end(stream::copy(log, STDOUT_FILENO, &mut block));
     libc::close(log);
 }
 

@@ -1,6 +1,6 @@
 -- The lemmas that the pages cite, with their parts under the names of Says.antt. Assumes nothing.
 use mathlib.Core.Path.{_≡_, sym, ap, _∙_}
-use mathlib.Core.Bool.{true, false}
+use mathlib.Core.Bool.{Bool, true, false}
 use mathlib.Core.List.{List, _++_, map}
 use Prim.Native.Nat.{ℕ, _≤_, _<_}
 use lib.ListN.{length, drop}
@@ -38,10 +38,10 @@ use Rattle.gatherings.proofs.Printed.{written-printed}
 use Rattle.records.specs.Records.{entryIn, isWhole, sizeOf, lastLine}
 use Rattle.records.specs.Transcripts.{printed as Transcripts·printed, Filled, filled, nextIn, textIn}
 use Rattle.records.proofs.Transcripts as programs
-use Rattle.blocks.specs.Turns.{broughtBy, turned, enough}
+use Rattle.blocks.specs.Turns.{Reading, broughtBy, failsIn, lastWritten, turned, enough}
 use Rattle.blocks.proofs.Turns as turns
 use Rattle.lines.specs.Lines.{longestLines}
-use Rattle.replay.specs.Log.{logForm, printed, logProgram}
+use Rattle.replay.specs.Log.{logForm, printed, printedWith, logProgram}
 use Rattle.replay.proofs.Log.{printed-program}
 use Rattle.promises.specs.Says.{ReadRefused, ReadList, ChunkListed, WriteRefused, WriteAnswered, Sendable, countFor, Alike, SameSlot, SameToAll, FieldsRead, withBits, Begins, ReadBack, ReadWhole, WrittenBack, OtherMajorChunk, AllRefused, orderLines, ReadParts, WriteParts}
 
@@ -123,24 +123,26 @@ write-parts xs k output = let h = packed.write-parts xs k output in record { num
 
 module _ (s : State) (log : List ℕ) where
   same : printed s log ≡ Transcripts·printed logProgram s log
-  same = printed-program s log
+  same = printed-program lastLine s log
 
   pub printed-record : let e = entryIn logForm log in isWhole e ≡ true → printed s log ≡ textIn logProgram s log ++ printed (nextIn logProgram s log) (drop (sizeOf e) log)
   printed-record w =
       same
-      ∙ programs.printed-record logProgram s log w
-      ∙ ap (λ (t : List ℕ). textIn logProgram s log ++ t) (sym (printed-program (nextIn logProgram s log) (drop (sizeOf (entryIn logForm log)) log)))
+      ∙ programs.printed-record logProgram lastLine s log w
+      ∙ ap (λ (t : List ℕ). textIn logProgram s log ++ t) (sym (printed-program lastLine (nextIn logProgram s log) (drop (sizeOf (entryIn logForm log)) log)))
 
   pub printed-last : isWhole (entryIn logForm log) ≡ false → printed s log ≡ lastLine (entryIn logForm log)
-  printed-last w = same ∙ programs.printed-last logProgram s log w
+  printed-last w = same ∙ programs.printed-last logProgram lastLine s log w
 
 pub filled-printed : (room : ℕ) (s : State) (block rest : List ℕ) → let f = filled logProgram room s block in printed s (block ++ rest) ≡ f .text ++ printed (f .state) (drop (f .read) block ++ rest)
 filled-printed room s block rest =
     let f : Filled State = filled logProgram room s block in
-    printed-program s (block ++ rest)
-    ∙ programs.filled-printed logProgram room s block rest
-    ∙ ap (λ (t : List ℕ). f .text ++ t) (sym (printed-program (f .state) (drop (f .read) block ++ rest)))
+    printed-program lastLine s (block ++ rest)
+    ∙ programs.filled-printed logProgram lastLine room s block rest
+    ∙ ap (λ (t : List ℕ). f .text ++ t) (sym (printed-program lastLine (f .state) (drop (f .read) block ++ rest)))
 
-pub turned-printed : (room : ℕ) (s : State) (xs : List ℕ) (reads : List (List ℕ)) (n : ℕ) → longestLines ≤ room → enough xs reads ≤ n → turned logProgram room n s xs reads ≡ printed s (xs ++ broughtBy reads)
-turned-printed room s xs reads n space h =
-    turns.turned-printed logProgram room s xs reads n space h ∙ sym (printed-program s (xs ++ broughtBy reads))
+pub turned-printed : (room : ℕ) (s : State) (xs : List ℕ) (reads : List Reading) (n : ℕ) (failed : Bool) → longestLines ≤ room → enough xs reads ≤ n → failsIn reads ≡ failed → turned logProgram room n s xs reads ≡ printedWith (lastWritten failed) s (xs ++ broughtBy reads)
+turned-printed room s xs reads n failed space h e =
+    turns.turned-printed logProgram room s xs reads n space h
+    ∙ sym (printed-program (lastWritten (failsIn reads)) s (xs ++ broughtBy reads))
+    ∙ ap (λ (t : Bool). printedWith (lastWritten t) s (xs ++ broughtBy reads)) e

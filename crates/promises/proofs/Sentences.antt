@@ -64,9 +64,9 @@ use Rattle.records.specs.Records.{entryIn, isWhole, sizeOf, fileUpTo, lastLine}
 use Rattle.records.specs.Transcripts.{Filled, filled, nextIn, textIn}
 use Rattle.records.proofs.Entries.{entry-more}
 use Rattle.records.proofs.Transcripts.{file-any, filled-stops, filled-room, filled-keeps}
-use Rattle.blocks.specs.Turns.{broughtBy, turned, enough}
+use Rattle.blocks.specs.Turns.{Reading, broughtBy, failsIn, lastWritten, turned, enough}
 use Rattle.lines.specs.Lines.{longestLines}
-use Rattle.replay.specs.Log.{logForm, printed, logProgram}
+use Rattle.replay.specs.Log.{logForm, printed, printedWith, logProgram}
 use Rattle.replay.proofs.Log.{next-ready, lines-fit}
 use Rattle.replay.proofs.Samples.{sampleLog, sampleText, start, sample-printed}
 use Rattle.lukasembo.specs.Packed.{packedRead, packedWritten}
@@ -320,7 +320,11 @@ pub whole-stays-whole : (block rest : List ℕ) → isWhole (entryIn logForm blo
 whole-stays-whole block rest w = entry-more logForm block rest (inl w)
 
 -- and of the program's loop: turn after turn, whatever its reads bring and however they cut the log, what is written is the whole transcript. A turn
--- is what `stream::turn` says of itself (`TurnSays`), the reads' bytes are those up to the first read that brings nothing
-module _ (room : ℕ) (s : State) (xs : List ℕ) (reads : List (List ℕ)) (n : ℕ) (space : longestLines ≤ room) where
-  pub any-reads : enough xs reads ≤ n → turned logProgram room n s xs reads ≡ printed s (xs ++ broughtBy reads)
-  any-reads = fields.turned-printed room s xs reads n space
+-- is what `stream::turn` says of itself (`TurnSays`), the reads' bytes are those up to the first read that brings nothing or fails
+module _ (room : ℕ) (s : State) (xs : List ℕ) (reads : List Reading) (n : ℕ) (space : longestLines ≤ room) (turns : enough xs reads ≤ n) where
+  pub any-reads : failsIn reads ≡ false → turned logProgram room n s xs reads ≡ printed s (xs ++ broughtBy reads)
+  any-reads = fields.turned-printed room s xs reads n false space turns
+
+  -- where a read fails, it is the lines of the records that came, and no last line but that of an unknown mark, behind which nothing is read
+  pub failed-read : failsIn reads ≡ true → turned logProgram room n s xs reads ≡ printedWith (lastWritten true) s (xs ++ broughtBy reads)
+  failed-read = fields.turned-printed room s xs reads n true space turns

@@ -1,7 +1,11 @@
 // What each offered call says of its result, for any arguments: each function here has the call's contract, word for word, and only makes the
 // call. A call that said less, or that asked for something, would not be taken here. No `requires` stands on this page.
+use blocks::Step;
 use desk::Desk;
 use desk::Taken;
+use manners::Came;
+use manners::Ending;
+use manners::Sent;
 use meaning::Checked;
 use meaning::Kind;
 use meaning::Read;
@@ -14,7 +18,9 @@ use writer::Unwritten;
 use writer::Written;
 ghost use mathlib.Core.Path.{_≡_};
 ghost use denote.Ref.{ptr};
+ghost use lib.Dec.{T};
 ghost use lib.ListN.{drop};
+ghost use Rattle.octets.specs.Checks.{among};
 ghost use Rattle.octets.specs.Word.{word, high, low};
 ghost use Rattle.meaning.specs.Lists.{kindOf, currentOf};
 ghost use Rattle.meaning.specs.Numbers.{numberOf};
@@ -28,6 +34,9 @@ ghost use Rattle.desk.specs.Desks.{fresh, newGathering, newFrame, after, segmen
 ghost use Rattle.records.specs.Records.{markIn, entryAs, entryIn, endNumber};
 ghost use Rattle.replay.specs.Log.{logForm};
 ghost use Rattle.lukasembo.specs.Packed.{packedRead, packedWritten};
+ghost use Rattle.manners.specs.Manners.{bytesIn, endedBy, statusOf};
+ghost use Rattle.blocks.specs.Blocks.{stopsAt, runStatuses};
+ghost use Rattle.replies.specs.Replies.{replyStatuses};
 
 // ---- the reader
 
@@ -185,4 +194,48 @@ pub fn low_of(w: u16) -> u8
     ensures { λ r. ⌜ r ≡ low w ⌝ }
 {
     octets::low_of(w)
+}
+
+// ---- how a program goes on and ends: by what came of a read or a write; the status by the ending, of a log and of what is typed one of a few
+
+pub fn status_of(ending: Ending) -> u8
+    ensures { λ r. ⌜ r ≡ statusOf ending ⌝ }
+{
+    manners::status_of(ending)
+}
+
+pub fn ended(sent: Sent, number: u8) -> Ending
+    ensures { λ r. ⌜ r ≡ endedBy sent number ⌝ }
+{
+    manners::ended(sent, number)
+}
+
+pub fn bytes_in(came: Came) -> usize
+    ensures { λ r. ⌜ r ≡ bytesIn came ⌝ }
+{
+    manners::bytes_in(came)
+}
+
+pub fn stops(step: Step) -> bool
+    ensures { λ r. ⌜ r ≡ stopsAt step ⌝ }
+{
+    blocks::stops(step)
+}
+
+pub fn copy(from: i32, to: i32, block: &mut [u8; 65536]) -> Ending
+    ensures { λ r. ⌜ T (among runStatuses (statusOf r)) ⌝ }
+{
+    stream::copy(from, to, block)
+}
+
+pub fn copy_slowly(from: i32, to: i32, block: &mut [u8; 39]) -> Ending
+    ensures { λ r. ⌜ T (among runStatuses (statusOf r)) ⌝ }
+{
+    stream::copy_slowly(from, to, block)
+}
+
+pub fn reply(from: i32, to: i32, reasons: i32) -> Ending
+    ensures { λ r. ⌜ T (among replyStatuses (statusOf r)) ⌝ }
+{
+    replies::reply(from, to, reasons)
 }

@@ -13,8 +13,8 @@ use lib.Seq.{drop-append-le, drop-drop}
 use Rattle.octets.proofs.Laws.{either}
 use Rattle.records.specs.declared.Entry.{Entry}
 use Rattle.records.specs.declared.Entry.the-variants.{End, Whole, Unknown, Cut}
-use Rattle.records.specs.Records.{Forms, entryIn, isWhole, sizeOf, Record, recordIn, File, fileFrom, fileUpTo, fileIn, lastLine}
-use Rattle.records.specs.Transcripts.{Program, textOf, printed, Filled, still, followed, nextIn, textIn, filling, filled}
+use Rattle.records.specs.Records.{Forms, entryIn, isWhole, sizeOf, Record, recordIn, File, fileFrom, fileUpTo, fileIn}
+use Rattle.records.specs.Transcripts.{Program, textOf, printedWith, Filled, still, followed, nextIn, textIn, filling, filled}
 use Rattle.records.proofs.Entries.{size-inside, whole-some, entry-more, record-more}
 
 -- ---- the records of a file
@@ -85,18 +85,18 @@ module _ {S : Type 0} (p : Program S) where
   abbrev rest : List ℕ → List ℕ
   rest xs = drop (sizeOf (here xs)) xs
 
-  pub printed-record : (s : S) (xs : List ℕ) → isWhole (entryIn (p .forms) xs) ≡ true → printed p s xs ≡ textIn p s xs ++ printed p (nextIn p s xs) (drop (sizeOf (entryIn (p .forms) xs)) xs)
-  unfolding printed textOf
-  printed-record s xs w =
+  pub printed-record : (last : Entry → List ℕ) (s : S) (xs : List ℕ) → isWhole (entryIn (p .forms) xs) ≡ true → printedWith last p s xs ≡ textIn p s xs ++ printedWith last p (nextIn p s xs) (drop (sizeOf (entryIn (p .forms) xs)) xs)
+  unfolding printedWith textOf
+  printed-record last s xs w =
       let r : Record = recordIn (sizeOf (here xs)) xs in
       let f : File = fileIn (p .forms) (rest xs) in
-      ap (λ (f : File). textOf p s (f .records) ++ lastLine (f .end)) (file-record (p .forms) xs w)
-      ∙ append-assoc (p .text s r) (textOf p (p .next s r) (f .records)) (lastLine (f .end))
-      ∙ (λ i. cond (sym w i) (p .text s r) [] ++ (textOf p (cond (sym w i) (p .next s r) s) (f .records) ++ lastLine (f .end)))
+      ap (λ (f : File). textOf p s (f .records) ++ last (f .end)) (file-record (p .forms) xs w)
+      ∙ append-assoc (p .text s r) (textOf p (p .next s r) (f .records)) (last (f .end))
+      ∙ (λ i. cond (sym w i) (p .text s r) [] ++ (textOf p (cond (sym w i) (p .next s r) s) (f .records) ++ last (f .end)))
 
-  pub printed-last : (s : S) (xs : List ℕ) → isWhole (entryIn (p .forms) xs) ≡ false → printed p s xs ≡ lastLine (entryIn (p .forms) xs)
-  unfolding printed textOf
-  printed-last s xs w = ap (λ (f : File). textOf p s (f .records) ++ lastLine (f .end)) (file-none (p .forms) xs w)
+  pub printed-last : (last : Entry → List ℕ) (s : S) (xs : List ℕ) → isWhole (entryIn (p .forms) xs) ≡ false → printedWith last p s xs ≡ last (entryIn (p .forms) xs)
+  unfolding printedWith textOf
+  printed-last last s xs w = ap (λ (f : File). textOf p s (f .records) ++ last (f .end)) (file-none (p .forms) xs w)
 
   -- what comes after a whole record does not matter to it
   module _ (s : S) (xs more : List ℕ) (w : isWhole (entryIn (p .forms) xs) ≡ true) where
@@ -112,11 +112,11 @@ module _ {S : Type 0} (p : Program S) where
     pub text-more : textIn p s (xs ++ more) ≡ textIn p s xs
     text-more i = cond (isWhole (same i)) (p .text s (record-same i)) []
 
-    printed-more : printed p s (xs ++ more) ≡ textIn p s xs ++ printed p (nextIn p s xs) (rest xs ++ more)
-    printed-more =
-        printed-record s (xs ++ more) (ap isWhole same ∙ w)
-        ∙ (λ i. text-more i ++ printed p (next-more i) (drop (sizeOf (same i)) (xs ++ more)))
-        ∙ ap (λ (t : List ℕ). textIn p s xs ++ printed p (nextIn p s xs) t) (drop-append-le (sizeOf (here xs)) xs more (size-inside (p .forms) xs))
+    printed-more : (last : Entry → List ℕ) → printedWith last p s (xs ++ more) ≡ textIn p s xs ++ printedWith last p (nextIn p s xs) (rest xs ++ more)
+    printed-more last =
+        printed-record last s (xs ++ more) (ap isWhole same ∙ w)
+        ∙ (λ i. text-more i ++ printedWith last p (next-more i) (drop (sizeOf (same i)) (xs ++ more)))
+        ∙ ap (λ (t : List ℕ). textIn p s xs ++ printedWith last p (nextIn p s xs) t) (drop-append-le (sizeOf (here xs)) xs more (size-inside (p .forms) xs))
 
   -- ---- filling: a record and what follows, or nothing
 
@@ -183,14 +183,14 @@ module _ {S : Type 0} (p : Program S) where
       (λ room s xs w r f q. omega (arith, size-inside (p .forms) xs, length-drop (sizeOf (here xs)) xs))
 
   -- the streaming law
-  pub filled-printed : (room : ℕ) (s : S) (xs after : List ℕ) → printed p s (xs ++ after) ≡ filled p room s xs .text ++ printed p (filled p room s xs .state) (drop (filled p room s xs .read) xs ++ after)
-  filled-printed room s xs after =
-      filled-cases (λ room s xs f. printed p s (xs ++ after) ≡ f .text ++ printed p (f .state) (drop (f .read) xs ++ after)) (λ room s xs t. refl)
+  pub filled-printed : (last : Entry → List ℕ) (room : ℕ) (s : S) (xs after : List ℕ) → printedWith last p s (xs ++ after) ≡ filled p room s xs .text ++ printedWith last p (filled p room s xs .state) (drop (filled p room s xs .read) xs ++ after)
+  filled-printed last room s xs after =
+      filled-cases (λ room s xs f. printedWith last p s (xs ++ after) ≡ f .text ++ printedWith last p (f .state) (drop (f .read) xs ++ after)) (λ room s xs t. refl)
       (λ room s xs w r f q.
-      printed-more s xs after w
+      printed-more s xs after w last
       ∙ ap (λ (t : List ℕ). textIn p s xs ++ t) q
-      ∙ sym (append-assoc (textIn p s xs) (f .text) (printed p (f .state) (drop (f .read) (rest xs) ++ after)))
-      ∙ ap (λ (t : List ℕ). (textIn p s xs ++ f .text) ++ printed p (f .state) (t ++ after)) (drop-drop (f .read) (sizeOf (here xs)) xs))
+      ∙ sym (append-assoc (textIn p s xs) (f .text) (printedWith last p (f .state) (drop (f .read) (rest xs) ++ after)))
+      ∙ ap (λ (t : List ℕ). (textIn p s xs ++ f .text) ++ printedWith last p (f .state) (t ++ after)) (drop-drop (f .read) (sizeOf (here xs)) xs))
       room s xs
 
   pub filled-stops : (room : ℕ) (s : S) (xs : List ℕ) → Stops (room - length (filled p room s xs .text)) (drop (filled p room s xs .read) xs)

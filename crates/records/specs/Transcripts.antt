@@ -6,6 +6,7 @@ use mathlib.Core.List.{List, [], _∷_, _++_}
 use lib.Dec.{leb}
 use lib.ListN.{length, drop}
 use Rattle.text.specs.Text.{Put}
+use Rattle.records.specs.declared.Entry.{Entry}
 use Rattle.records.specs.Records.{Forms, Record, recordIn, entryIn, isWhole, sizeOf, fileIn, lastLine}
 
 pub record Program (S : Type 0) : Type 0 where
@@ -21,9 +22,13 @@ unfoldable pub textOf : {S : Type 0} → Program S → S → List Record → Lis
 textOf p s [] = []
 textOf p s (r ∷ more) = p .text s r ++ textOf p (p .next s r) more
 
+-- the text of all records of a file, and behind it what is written for what stands behind the last
+unfoldable pub printedWith : {S : Type 0} → (Entry → List ℕ) → Program S → S → List ℕ → List ℕ
+printedWith last p s xs = let f = fileIn (p .forms) xs in textOf p s (f .records) ++ last (f .end)
+
 -- the whole transcript
-unfoldable pub printed : {S : Type 0} → Program S → S → List ℕ → List ℕ
-printed p s xs = let f = fileIn (p .forms) xs in textOf p s (f .records) ++ lastLine (f .end)
+abbrev pub printed : {S : Type 0} → Program S → S → List ℕ → List ℕ
+printed p s xs = printedWith lastLine p s xs
 
 -- ---- as much of it as one block of the file gives and one output takes
 

@@ -8,8 +8,9 @@ use lib.Dec.{eqb}
 use lib.ListN.{length, take, length-take}
 use Rattle.records.specs.declared.Form.{Form}
 use Rattle.records.specs.declared.Form.the-variants.{Foreign, Fixed}
-use Rattle.records.specs.Records.{markOf, Record, File, fileIn, lastLine}
-use Rattle.records.specs.Transcripts.{textOf, printed as Transcripts·printed}
+use Rattle.records.specs.Records.{markOf, Record, File, fileIn}
+use Rattle.records.specs.declared.Entry.{Entry}
+use Rattle.records.specs.Transcripts.{textOf, printedWith as Transcripts·printedWith}
 use Rattle.records.proofs.Entries.{formBytes, Within}
 use Rattle.meaning.specs.declared.Kind.{Kind}
 use Rattle.meaning.specs.declared.Kind.the-variants.{This}
@@ -27,7 +28,7 @@ use Rattle.effects.proofs.Accepted.{missing-few}
 use Rattle.effects.proofs.Calls.{left-lengths, wholly-again}
 use Rattle.lines.specs.Lines.{longestLines}
 use Rattle.lines.proofs.Laws.{length-frame, Countable, length-answer}
-use Rattle.replay.specs.Log.{logForm, longestRecord, callOf, linesOf, printed, logProgram}
+use Rattle.replay.specs.Log.{logForm, longestRecord, callOf, linesOf, printedWith, logProgram}
 
 -- ---- the records
 
@@ -59,11 +60,11 @@ run-text s (r ∷ rs) =
     ap (λ (x : List ℕ). linesOf (toldBy segmentAfter s (callOf s r)) ++ x)
     (ap (λ (cs : List Call). flatMap linesOf (ran t cs .told)) (sym (calls-again s (callOf s r) rs)) ∙ run-text t rs)
 
-pub printed-program : (s : State) (log : List ℕ) → printed s log ≡ Transcripts·printed logProgram s log
-unfolding printed Transcripts·printed
-printed-program s log =
+pub printed-program : (last : Entry → List ℕ) (s : State) (log : List ℕ) → printedWith last s log ≡ Transcripts·printedWith last logProgram s log
+unfolding printedWith Transcripts·printedWith
+printed-program last s log =
     let f : File = fileIn logForm log in
-    ap (λ (x : List ℕ). x ++ lastLine (f .end)) (run-text s (f .records))
+    ap (λ (x : List ℕ). x ++ last (f .end)) (run-text s (f .records))
 
 -- ---- the desk stays well formed, and the buffers stay long enough
 

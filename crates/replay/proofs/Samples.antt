@@ -16,7 +16,7 @@ use Rattle.slots.specs.Gathering.{completed, gathered}
 use Rattle.desk.specs.Desks.{fresh, wellFormed, newFrame, takenBy, segmentAfter, shownLength, shown}
 use Rattle.desk.specs.Calls.{State, state, ranBy}
 use Rattle.lines.specs.Lines.{frameLines, answerLines}
-use Rattle.replay.specs.Log.{printed}
+use Rattle.replay.specs.Log.{printed, printedWith}
 
 -- a segment for the next frame: its header, the chunk and 23 bytes FF
 abbrev pub sampleSegment : List ℕ
@@ -40,5 +40,5 @@ sampleText =
     ++ text "END 0\n"
 
 pub sample-printed : printed start sampleLog ≡ sampleText
-unfolding printed fileIn fileUpTo entryIn markIn ranBy lastLine frameLines answerLines hex decimal decimalIn flatMap shown shownLength newFrame segmentAfter takenBy wellFormed slotFits clashing gathered completed segmentChecks checks ensemblesChecks listIn ensemblesAt servicesAt listing ensembleListing ones onesIn
+unfolding printedWith fileIn fileUpTo entryIn markIn ranBy lastLine frameLines answerLines hex decimal decimalIn flatMap shown shownLength newFrame segmentAfter takenBy wellFormed slotFits clashing gathered completed segmentChecks checks ensemblesChecks listIn ensemblesAt servicesAt listing ensembleListing ones onesIn
 sample-printed = refl

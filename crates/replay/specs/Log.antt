@@ -6,6 +6,7 @@ use mathlib.Core.List.{List, _++_, map, flatMap}
 use lib.Dec.{eqb}
 use lib.ListN.{length}
 use Rattle.text.specs.Text.{Put}
+use Rattle.records.specs.declared.Entry.{Entry}
 use Rattle.records.specs.declared.Form.the-variants.{Foreign, Fixed}
 use Rattle.records.specs.Records.{markBytes, markOf, Forms, Record, fileIn, lastLine}
 use Rattle.records.specs.Transcripts.{Program, filled}
@@ -37,11 +38,15 @@ linesOf (framed l) = frameLines l
 linesOf begun = gatheringLine
 linesOf (answered a l) = answerLines a l
 
--- the whole transcript: the lines of what the calls are told, then the last line
-unfoldable pub printed : State → List ℕ → List ℕ
-printed s log =
+-- the lines of what the calls are told, then what is written for what stands behind the last record
+unfoldable pub printedWith : (Entry → List ℕ) → State → List ℕ → List ℕ
+printedWith last s log =
     let f = fileIn logForm log in
-    flatMap linesOf (ran s (map (callOf s) (f .records)) .told) ++ lastLine (f .end)
+    flatMap linesOf (ran s (map (callOf s) (f .records)) .told) ++ last (f .end)
+
+-- the whole transcript: these lines, then the last line
+abbrev pub printed : State → List ℕ → List ℕ
+printed s log = printedWith lastLine s log
 
 -- ---- the same record by record, for a log that comes in blocks
 

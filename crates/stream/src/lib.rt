@@ -1,25 +1,28 @@
 // A log from one descriptor, its transcript to another, in blocks. What is printed is decided by `replay`; here bytes are moved.
-use blocks::Ending;
+use blocks::Step;
 use blocks::Unread;
 use desk::Desk;
+use manners::Ending;
 use meaning::LONGEST_LISTING;
 use notes::Notes;
 ghost use mathlib.Core.Path.{_≡_};
+ghost use lib.Dec.{T};
+ghost use Rattle.octets.specs.Checks.{among};
 ghost use Prim.Native.Nat.{_≤_};
-ghost use lib.ListN.{length, take};
-ghost use Rattle.records.specs.Records.{entryIn, lastLine};
+ghost use lib.ListN.{length};
+ghost use Rattle.records.specs.Records.{entryIn};
 ghost use Rattle.records.specs.Transcripts.{filled};
-ghost use Rattle.blocks.specs.Blocks.{unread as Blocks·unread, Follows, TurnSays, Ends};
+ghost use Rattle.blocks.specs.Blocks.{unread as Blocks·unread, TurnSays, Settles, Ends, runStatuses};
+ghost use Rattle.manners.specs.Manners.{statusOf};
 ghost use Rattle.desk.specs.Desks.{desk as Desks·desk};
 ghost use Rattle.desk.specs.Calls.{state, Ready};
 ghost use Rattle.lines.specs.Lines.{longestLines};
 ghost use Rattle.replay.specs.Log.{logForm, longestRecord, logProgram};
 
-// After a turn: the desk's numbers, how much was put to the output, whether it could not be written, and what is unread.
+// After a turn: the desk's numbers, how much was put to the output, and what is unread.
 struct Turned {
     notes: Notes,
     wrote: usize,
-    failed: bool,
     unread: Unread,
 }
 
@@ -29,15 +32,6 @@ struct Ended {
     turns: u64,
     at: usize,
     have: usize,
-}
-
-// What follows at a place of the block, the records before it being printed.
-fn advance(from: i32, block: &mut [u8], at: usize, have: usize) -> Unread
-    requires { ⌜ (at ≤ have) × (have ≤ length (now block)) × (longestRecord ≤ length (now block)) ⌝ }
-    ensures { λ r. ⌜ Follows logForm (now (block .entry)) at have (now (block .exit)) r ⌝ }
-{
-    let entry = replay::entry_at(&block[..have], at);
-    blocks::advance(from, block, at, have, entry)
 }
 
 // One turn: prints the records at the start of what is unread, as many as the output has room for, and goes on behind them.
@@ -55,37 +49,43 @@ fn turn(
 ) -> Turned
     requires { ⌜ Ready (state (Desks·desk notes (now bytes)) (now first) (now second)) ⌝ }
     requires { ⌜ (at ≤ have) × (have ≤ length (now block)) × (longestRecord ≤ length (now block)) ⌝ }
-    ensures { λ r. ⌜ TurnSays logForm (filled logProgram (length (now (out .entry))) (state (Desks·desk notes (now (bytes .entry))) (now (first .entry)) (now (second .entry))) (Blocks·unread (now (block .entry)) at have)) (now (block .entry)) at have (now (out .entry)) (state (Desks·desk (r .notes) (now (bytes .exit))) (now (first .exit)) (now (second .exit))) (now (block .exit)) (now (out .exit)) (r .wrote) (r .failed) (r .unread) ⌝ }
+    ensures { λ r. ⌜ TurnSays logForm (filled logProgram (length (now (out .entry))) (state (Desks·desk notes (now (bytes .entry))) (now (first .entry)) (now (second .entry))) (Blocks·unread (now (block .entry)) at have)) (now (block .entry)) at have (now (out .entry)) (state (Desks·desk (r .notes) (now (bytes .exit))) (now (first .exit)) (now (second .exit))) (now (block .exit)) (now (out .exit)) (r .wrote) (r .unread) ⌝ }
 {
     let f = replay::fill(notes, bytes, first, second, &block[at..have], out);
     let after = f.notes;
     let wrote = f.wrote;
-    let read = f.read;
-    if !io::write_all(to, &out[..wrote]) {
-        return Turned {
-            notes: after,
-            wrote: wrote,
-            failed: true,
-            unread: blocks::stay(at, have, false),
-        };
-    }
-    let u = advance(from, block, at + read, have);
+    let next = at + f.read;
+    let entry = replay::entry_at(&block[..have], next);
+    let sent = manners::write_out(to, &out[..wrote]);
+    let u = blocks::proceed(sent, from, block, at, next, have, entry);
     Turned {
         notes: after,
         wrote: wrote,
-        failed: false,
         unread: u,
     }
 }
 
-// Prints the last line, for what stands at a place.
-fn print_last(block: &[u8], at: usize, have: usize, out: &mut [u8], to: i32) -> bool
+// Ends a run at a step.
+fn finish(
+    step: Step,
+    turns: u64,
+    block: &[u8],
+    at: usize,
+    have: usize,
+    out: &mut [u8],
+    to: i32,
+) -> Ended
     requires { ⌜ (at ≤ have) × (have ≤ length (now block)) × (longestLines ≤ length (now out)) ⌝ }
-    ensures { λ _. ⌜ take (length (lastLine (entryIn logForm (Blocks·unread (now (block .entry)) at have)))) (now (out .exit)) ≡ lastLine (entryIn logForm (Blocks·unread (now (block .entry)) at have)) ⌝ }
+    ensures { λ r. ⌜ Settles step (entryIn logForm (Blocks·unread (now (block .entry)) at have)) (now (out .exit)) (r .ending) × (r .turns ≡ turns) × (r .at ≡ at) × (r .have ≡ have) ⌝ }
 {
     let entry = replay::entry_at(&block[..have], at);
-    let n = records::put_last(entry, out);
-    io::write_all(to, &out[..n])
+    let ending = blocks::settle(step, entry, out, to);
+    Ended {
+        ending: ending,
+        turns: turns,
+        at: at,
+        have: have,
+    }
 }
 
 // Prints the transcript of a log, from a well formed desk whose bytes are lent in place.
@@ -114,33 +114,18 @@ fn run(
         let u = t.unread;
         at = u.at;
         have = u.have;
-        if t.failed {
-            return end_as(Ending::Unwritten, turns, at, have);
-        }
-        if u.over {
-            if !print_last(block, at, have, out, to) {
-                return end_as(Ending::Unwritten, turns, at, have);
-            }
-            return end_as(Ending::Over, turns, at, have);
+        let step = u.step;
+        if blocks::stops(step) {
+            return finish(step, turns, block, at, have, out, to);
         }
     }
-    end_as(Ending::Spent, turns, at, have)
-}
-
-fn end_as(ending: Ending, turns: u64, at: usize, have: usize) -> Ended
-    ensures { λ r. ⌜ (r .ending ≡ ending) × (r .turns ≡ turns) × (r .at ≡ at) × (r .have ≡ have) ⌝ }
-{
-    Ended {
-        ending: ending,
-        turns: turns,
-        at: at,
-        have: have,
-    }
+    finish(Step::Next, turns, block, at, have, out, to)
 }
 
 // Prints the transcript of a log, from a fresh desk.
 fn print(from: i32, to: i32, block: &mut [u8]) -> Ending
     requires { ⌜ longestRecord ≤ length (now block) ⌝ }
+    ensures { λ r. ⌜ T (among runStatuses (statusOf r)) ⌝ }
 {
     let fresh = Desk::fresh();
     let notes = fresh.notes;
@@ -162,13 +147,17 @@ fn print(from: i32, to: i32, block: &mut [u8]) -> Ending
 }
 
 // Prints the transcript of a log, reading it through the lent block.
-pub fn copy(from: i32, to: i32, block: &mut [u8; 65536]) -> Ending {
+pub fn copy(from: i32, to: i32, block: &mut [u8; 65536]) -> Ending
+    ensures { λ r. ⌜ T (among runStatuses (statusOf r)) ⌝ }
+{
     let all: &mut [u8] = block;
     print(from, to, all)
 }
 
 // The same through a block that holds one segment's record and no more, as a log that comes slowly is read.
-pub fn copy_slowly(from: i32, to: i32, block: &mut [u8; 39]) -> Ending {
+pub fn copy_slowly(from: i32, to: i32, block: &mut [u8; 39]) -> Ending
+    ensures { λ r. ⌜ T (among runStatuses (statusOf r)) ⌝ }
+{
     let all: &mut [u8] = block;
     print(from, to, all)
 }

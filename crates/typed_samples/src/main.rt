@@ -1,4 +1,4 @@
-// Runs what the program `write` does on each stored text that the arguments name, the reasons on standard output too.
+// Runs what the program `write` does on each stored text that the arguments name, the reasons on standard output too, and the status.
 use libc::STDOUT_FILENO;
 
 fn say(text: &[u8]) {
@@ -14,9 +14,9 @@ fn run(name: &[u8]) {
         os::fail(name);
         return;
     }
-    let mut text = io::large_buffer();
-    let have = io::read_full(file, &mut text);
-    replies::answer(&text[..have], STDOUT_FILENO, STDOUT_FILENO);
+    let ending = replies::reply(file, STDOUT_FILENO, STDOUT_FILENO);
+    say(b"\nstatus ");
+    io::print_decimal(STDOUT_FILENO, manners::status_of(ending) as u64);
     say(b"\n");
     libc::close(file);
 }

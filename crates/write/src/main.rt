@@ -1,11 +1,14 @@
-// Reads a kind and a listing in hex on standard input, and writes its segments as a log on standard output; where there is no log, the reason on
-// standard error.
+// Writes the segments of a list as a log, from a line on standard input: echo "this LISTING IN HEX" | write
 use libc::STDERR_FILENO;
 use libc::STDIN_FILENO;
 use libc::STDOUT_FILENO;
 
 fn main() {
-    let mut text = io::large_buffer();
-    let have = io::read_full(STDIN_FILENO, &mut text);
-    replies::answer(&text[..have], STDOUT_FILENO, STDERR_FILENO);
+    if manners::has_words(
+        b"write: takes no words; the line comes on standard input: echo \"this LISTING IN HEX\" | write\n",
+    ) {
+        return;
+    }
+    let ending = replies::reply(STDIN_FILENO, STDOUT_FILENO, STDERR_FILENO);
+    manners::finish(b"write", ending);
 }

@@ -1,4 +1,4 @@
--- `logs::main` is safe and ends: the measure is how many arguments it would still look at. Assumes nothing.
+-- `log_samples::main` is safe and ends: the measure is how many arguments it would still look at. Assumes nothing.
 use Prim.Native.Nat.{_-_}
 use borrow.Author.Needs.{needs}
 use native.Mathlib.Omega.{arith}

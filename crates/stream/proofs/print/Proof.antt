@@ -2,6 +2,7 @@
 use mathlib.Core.Path.{ap, _∙_}
 use Rattle.desk.specs.Desks.{wellFormed}
 use Rattle.effects.proofs.Keeps.{fresh-fits}
+use Rattle.blocks.proofs.Laws.{ends-status}
 use native.Mathlib.Omega.{arith}
 use borrow.Author.Needs.{needs}
 use Rattle.stream.proofs.print.Statement.{statement}
@@ -33,7 +34,7 @@ same-length : tie.Need-same-length
 same-length c = search needs
 
 returns : tie.Need-returns
-returns c = search needs
+returns c = ends-status (c .before .before .before .before .before .before .run .result .ending) _ _ _ (c .before .before .before .before .before .before .run .ensures)
 
 pub print-spec : {M : Type 1} → statement M
 print-spec =

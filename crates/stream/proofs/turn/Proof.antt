@@ -1,4 +1,4 @@
--- `stream::turn` meets its contract: what `replay::fill` put out is written, and `advance` goes on behind it. Assumes nothing.
+-- `stream::turn` meets its contract: what `replay::fill` put out is written, and `proceed` goes on behind it. Assumes nothing.
 use mathlib.Core.Path.{sym}
 use mathlib.Core.List.{List}
 use Prim.Native.Nat.{ℕ, _+_, _≤_}
@@ -8,9 +8,9 @@ use lib.Seq.{length-take-le}
 use Rattle.desk.specs.Desks.{desk}
 use Rattle.desk.specs.Calls.{State, state}
 use Rattle.blocks.specs.Blocks.{unread}
-use Rattle.blocks.proofs.Laws.{stays, unread-length, filled-before, filled-inside, turn-lost, turn-passed}
-use Rattle.replay.specs.Log.{logProgram}
-use Rattle.replay.proofs.Log.{lines-fit}
+use Rattle.blocks.proofs.Laws.{unread-length, stands-unread, room-for-more, filled-before, filled-inside, turn-says}
+use Rattle.replay.specs.Log.{logForm, longestRecord, logProgram}
+use Rattle.replay.proofs.Log.{lines-fit, log-within}
 use native.Mathlib.Omega.{arith}
 use borrow.Author.Needs.{needs}
 use Rattle.stream.proofs.turn.Statement.{statement}
@@ -39,8 +39,8 @@ module _ (c : tie.After-fill) where
   most : s .args .at + c .fill .result .read ≤ s .args .have
   most = filled-before logProgram from after xs (now (s .args .out)) _ _ _ (c .fill .ensures) (s .args .at) (s .args .have) (unread-length block _ _ (s .pre .1 .0) (s .pre .1 .1)) (s .pre .1 .0)
 
-abbrev done : tie.After-after → tie.After-fill
-done c = c .before .before .before .before .before .before .before .before .before
+abbrev known : tie.After-struct-known → tie.After-fill
+known c = c .before .before .before .before .before .before .before .before .before .before
 
 sub-fill : tie.Need-sub-fill
 sub-fill c = search needs
@@ -54,17 +54,33 @@ part-fill-end c = search needs
 fill-requires : tie.Need-fill-requires
 fill-requires c κs = search needs
 
-slice-reshare-prefix-write-all : tie.Need-slice-reshare-prefix-write-all
-slice-reshare-prefix-write-all c = inside (done c)
+add-next : tie.Need-add-next
+add-next c = let k = known c in omega (arith, most k, s k .fits .have)
 
-slice-aggregate-write-all : tie.Need-slice-aggregate-write-all
-slice-aggregate-write-all c = sym (length-take-le _ _ (inside (done (c .before))))
+slice-reshare-prefix-entry-at : tie.Need-slice-reshare-prefix-entry-at
+slice-reshare-prefix-entry-at c = s (known c) .pre .1 .1
 
-write-all-requires : tie.Need-write-all-requires
-write-all-requires c κs = search needs
+slice-aggregate-entry-at : tie.Need-slice-aggregate-entry-at
+slice-aggregate-entry-at c = sym (length-take-le _ _ (s (known (c .before)) .pre .1 .1))
 
-stay-requires : tie.Need-stay-requires
-stay-requires c κs = search needs
+entry-at-requires : tie.Need-entry-at-requires
+entry-at-requires c κs = search needs
+
+slice-reshare-prefix-write-out : tie.Need-slice-reshare-prefix-write-out
+slice-reshare-prefix-write-out c = inside (known (c .before .before))
+
+slice-aggregate-write-out : tie.Need-slice-aggregate-write-out
+slice-aggregate-write-out c = sym (length-take-le _ _ (slice-reshare-prefix-write-out (c .before)))
+
+write-out-requires : tie.Need-write-out-requires
+write-out-requires c κs = search needs
+
+proceed-requires : tie.Need-proceed-requires
+proceed-requires c κs =
+    let e = c .before .before .before in
+    let k = known (e .before .before) in
+    let next = s k .args .at + k .fill .result .read in
+    ((omega (arith, most k, s k .pre .1 .0), s k .pre .1 .1), room-for-more logForm (block k) next (s k .args .have) (most k) (s k .pre .1 .1) _ (e .entry-at .ensures) longestRecord log-within (s k .pre .1 .2))
 
 same-length : tie.Need-same-length
 same-length c = search needs
@@ -83,34 +99,11 @@ same-length-5 c = search needs
 
 returns : tie.Need-returns
 returns c =
-    let k = done (c .before .before .before .before) in
-    turn-lost logProgram (from k) (after k) (xs k) (now (s k .args .out)) _ _ _ (k .fill .ensures) (block k) (s k .args .at) (s k .args .have) _ (c .stay .result) (stays _ _ _ _ _ (c .stay .ensures))
-
-add-advance : tie.Need-add-advance
-add-advance c = let k = done (c .before .before .before .before) in omega (arith, most k, s k .fits .have)
-
-advance-requires : tie.Need-advance-requires
-advance-requires c κs = let k = done (c .before .before .before .before) in (omega (arith, most k), s k .pre .1 .1, s k .pre .1 .2)
-
-same-length-6 : tie.Need-same-length-6
-same-length-6 c = search needs
-
-same-length-7 : tie.Need-same-length-7
-same-length-7 c = search needs
-
-same-length-8 : tie.Need-same-length-8
-same-length-8 c = search needs
-
-same-length-9 : tie.Need-same-length-9
-same-length-9 c = search needs
-
-same-length-10 : tie.Need-same-length-10
-same-length-10 c = search needs
-
-returns-2 : tie.Need-returns-2
-returns-2 c =
-    let k = done (c .before .before .before .before .before .before .before) in
-    turn-passed logProgram (from k) (after k) (xs k) (now (s k .args .out)) _ _ _ (k .fill .ensures) (block k) (s k .args .at) (s k .args .have) _ _ (c .before .before .advance .ensures)
+    let e = c .before .before .before .before .before .before in
+    let k = known (e .before .before) in
+    let next = s k .args .at + k .fill .result .read in
+    let stands = stands-unread logForm (block k) next (s k .args .have) (most k) (s k .pre .1 .1) _ (e .entry-at .ensures) in
+    turn-says logProgram (from k) (after k) (xs k) (now (s k .args .out)) _ _ _ (k .fill .ensures) (block k) (s k .args .at) (s k .args .have) _ _ _ stands (c .before .before .before .before .write-out .result) (c .before .before .proceed .ensures)
 
 pub turn-spec : {M : Type 1} → statement M
 turn-spec =
@@ -120,21 +113,17 @@ turn-spec =
     part-fill-start
     part-fill-end
     fill-requires
-    slice-reshare-prefix-write-all
-    slice-aggregate-write-all
-    write-all-requires
-    stay-requires
+    add-next
+    slice-reshare-prefix-entry-at
+    slice-aggregate-entry-at
+    entry-at-requires
+    slice-reshare-prefix-write-out
+    slice-aggregate-write-out
+    write-out-requires
+    proceed-requires
     same-length
     same-length-2
     same-length-3
     same-length-4
     same-length-5
-    returns
-    add-advance
-    advance-requires
-    same-length-6
-    same-length-7
-    same-length-8
-    same-length-9
-    same-length-10
-    returns-2)
+    returns)
