@@ -114,6 +114,8 @@ static int make_items(const char *name, int *writer)
             shape.minor = i % 8;
         }
         make_list(&rng, &list, &shape, MAKE_CHUNK);
+        if (!*writer && i % 4 == 0)
+            make_unknown(&rng, &list);
         if (*writer)
             make_listing(&list, &made);
         else {

@@ -1,15 +1,31 @@
-/* What a chunk, given in hex, lists; then that list written for the next frame, and read back: example [HEX] */
+/* What a chunk, given in hex, lists; then that list written for the next frame, and read back: example [HEX]
+   Exit status: 0 all of it done, 1 the chunk or its list refused, 2 words other than these. */
 #include "lukasembo.h"
 
 #include <stdio.h>
 #include <string.h>
+
+/* Prints an ensemble and its services; answers where the next one's record is. */
+static const uint8_t *show_ensemble(const uint8_t *at)
+{
+    unsigned services;
+
+    if (memcmp(at, "EU", 2) == 0) {
+        printf("  ensemble %u: of version %u, which is not known; its services are not listed\n", at[2], at[3]);
+        return at + 4;
+    }
+    printf("  ensemble %u: SLT %d, GAT %d, EAT %d, signaling channel version %d\n", at[2], at[3] >> 2, at[3] >> 1 & 1, at[3] & 1, at[4]);
+    for (services = at[5], at += 6; services > 0; services--, at += 7)
+        printf("    service %u: multi %d, status %d, SP %d\n", at[2] * 256u + at[3], at[4], at[5], at[6]);
+    return at;
+}
 
 /* Reads a chunk and prints what it lists; answers the listing's length, or 0 where the chunk is refused. */
 static size_t show(const uint8_t *chunk, size_t length, uint8_t listing[LUKASEMBO_LISTING])
 {
     const uint64_t answer = lukasembo_read(chunk, length, listing, LUKASEMBO_LISTING);
     const uint8_t *at = listing;
-    unsigned ensembles, services;
+    unsigned ensembles;
 
     if (lukasembo_number(answer) != LUKASEMBO_ACCEPTED) {
         printf("refused, number %d\n", (int)lukasembo_number(answer));
@@ -17,11 +33,8 @@ static size_t show(const uint8_t *chunk, size_t length, uint8_t listing[LUKASEMB
     }
     printf("for %s frame, minor edition %u\n", lukasembo_kind(answer) == LUKASEMBO_THIS ? "this" : "the next", lukasembo_minor(answer));
     printf("transport stream %u\n", at[2] * 256u + at[3]);
-    for (ensembles = at[4], at += 5; ensembles > 0; ensembles--) {
-        printf("  ensemble %u: SLT %d, GAT %d, EAT %d, signaling channel version %d\n", at[2], at[3] >> 2, at[3] >> 1 & 1, at[3] & 1, at[4]);
-        for (services = at[5], at += 6; services > 0; services--, at += 7)
-            printf("    service %u: multi %d, status %d, SP %d\n", at[2] * 256u + at[3], at[4], at[5], at[6]);
-    }
+    for (ensembles = at[4], at += 5; ensembles > 0; ensembles--)
+        at = show_ensemble(at);
     return lukasembo_length(answer);
 }
 
@@ -30,6 +43,7 @@ int main(int argc, char **argv)
     const char *hex = argc > 1 ? argv[1] : "0003012301" "05E08301" "0A01E6";
     uint8_t chunk[LUKASEMBO_CHUNK + 1], listing[LUKASEMBO_LISTING], segments[LUKASEMBO_OUTPUT];
     size_t n = 0, length, count, i;
+    uint64_t answer;
     unsigned byte;
 
     /* of a chunk that is too long, as much as is refused for it */
@@ -43,7 +57,12 @@ int main(int argc, char **argv)
     if (length == 0)
         return 1;
 
-    count = lukasembo_segments(lukasembo_write(listing, length, LUKASEMBO_NEXT, segments, sizeof segments));
+    answer = lukasembo_write(listing, length, LUKASEMBO_NEXT, segments, sizeof segments);
+    if (lukasembo_number(answer) != LUKASEMBO_ACCEPTED) {
+        printf("not written, as not all ensembles are known: refused, number %d\n", (int)lukasembo_number(answer));
+        return 1;
+    }
+    count = lukasembo_segments(answer);
     for (i = 0; i < count; i++)
         memcpy(chunk + i * LUKASEMBO_PAYLOAD, segments + i * LUKASEMBO_SEGMENT + LUKASEMBO_HEADER, LUKASEMBO_PAYLOAD);
     printf("written for the next frame, segments: %zu; their payloads read back:\n", count);

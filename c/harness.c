@@ -65,7 +65,7 @@ static uint8_t pattern[PATTERNS + BUFFER_ROOM + 2 * GUARD];
 static struct lent lent[SIDES][MEMORIES];
 static size_t region_size[MEMORIES];
 
-static uint64_t calls, limit, seed, seen[2][256], next_plant;
+static uint64_t calls, limit, seed, seen[2][256], seen_unknown, next_plant;
 static int plant; /* 0, or 1 + the side */
 static const char *keep = ".";
 
@@ -214,12 +214,29 @@ static size_t written_by(uint64_t a)
     return now.writer ? LUKASEMBO_SEGMENT * lukasembo_segments(a) : lukasembo_length(a);
 }
 
+/* The length of a record of a listing, other than the first. */
+static size_t record_length(const uint8_t *at)
+{
+    return at[0] == 'S' ? 7 : at[1] == 'U' ? 4 : 6;
+}
+
+/* Whether a listing has an unknown ensemble. */
+static int has_unknown(const uint8_t *listing, size_t n)
+{
+    size_t at;
+
+    for (at = 5; at + 4 <= n; at += record_length(listing + at))
+        if (listing[at] == 'E' && listing[at + 1] == 'U')
+            return 1;
+    return 0;
+}
+
 /* Makes one side's result wrong, where it can be: for ours a service's multi and status exchanged,
    for plain the byte past what was written. */
 static int make_wrong(int side, uint8_t *to)
 {
     const size_t n = written_by(answer[side]);
-    size_t at = 5;
+    size_t at;
 
     if (n == 0 || n > now.room)
         return 0;
@@ -236,12 +253,8 @@ static int make_wrong(int side, uint8_t *to)
         to[13] = (uint8_t)((bits & 0xE1) | status << 3 | multi << 1);
         return 1;
     }
-    while (at + 6 <= n)
-        if (to[at] == 'E')
-            at += 6;
-        else if (to[at + 4] == to[at + 5])
-            at += 7;
-        else {
+    for (at = 5; at + 7 <= n; at += record_length(to + at))
+        if (to[at] == 'S' && to[at + 4] != to[at + 5]) {
             const uint8_t multi = to[at + 4];
 
             to[at + 4] = to[at + 5];
@@ -438,6 +451,8 @@ static void hold(void)
         exit(1);
     }
     seen[now.writer][answer[OURS] & 0xFF]++;
+    if (!now.writer)
+        seen_unknown += has_unknown(lent[OURS][BUFFER].at, written_by(answer[OURS]));
     now.want = NULL;
     now.want_bytes = NULL;
 }
@@ -498,6 +513,8 @@ static size_t any_length(size_t n)
 static void any_chunk(const struct make_shape *shape, size_t most)
 {
     make_list(&rng, &list, shape, most);
+    if (rng_once_in(&rng, 3))
+        make_unknown(&rng, &list);
     make_chunk(&rng, &list, shape, &made);
 }
 
@@ -608,17 +625,25 @@ static void too_long(uint64_t i)
 
 static const struct make_shape written = {0, 0, 0, 0, 0, 1}; /* what the writer makes, for the next frame */
 
+/* A list whose chunk is at most so long. */
+static void any_list(size_t most)
+{
+    make_list(&rng, &list, &written, most);
+    if (rng_once_in(&rng, 8))
+        make_unknown(&rng, &list);
+}
+
 /* Writes the listing of list, with its answer and its segments known: any kind but 0 is for this frame. */
 static void hold_written(unsigned kind)
 {
     static struct made chunk;
     static uint8_t segments[MAKE_PLACES][MAKE_SEGMENT];
     struct make_shape shape = written;
-    uint64_t want = 14;
+    uint64_t want = list.unknown > 0 ? 13 : 14;
 
     shape.kind = kind != 0;
     make_listing(&list, &made);
-    if (make_size(&list, &shape) <= MAKE_CHUNK) {
+    if (list.unknown == 0 && make_size(&list, &shape) <= MAKE_CHUNK) {
         make_chunk(&rng, &list, &shape, &chunk);
         want = (uint64_t)make_segments(&rng, chunk.bytes, chunk.n, shape.kind, 1, segments) << 16;
     }
@@ -636,11 +661,11 @@ static void hold_written(unsigned kind)
 
 static void listings(uint64_t i)
 {
-    make_list(&rng, &list, &written, rng_once_in(&rng, 2) ? MAKE_CHUNK : 12 + rng_below(&rng, 100));
+    any_list(rng_once_in(&rng, 2) ? MAKE_CHUNK : 12 + rng_below(&rng, 100));
     hold_written((unsigned)(i % 2));
 }
 
-/* The counts about the limit of 560 bytes, for every number of ensembles. */
+/* The counts about the limit of 560 bytes, for every number of ensembles, at times unknown ones. */
 static void limits(uint64_t i)
 {
     static const uint8_t named[][2] = {{1, 183}, {1, 184}, {3, 181}, {3, 182}};
@@ -659,13 +684,15 @@ static void limits(uint64_t i)
         services = services > 0 ? services - 1 : 0;
     }
     make_counts(&rng, &list, ensembles, services);
+    if (rng_once_in(&rng, 16))
+        make_unknown(&rng, &list);
     hold_written((unsigned)(i % 2));
 }
 
 /* times 0: two to five. */
 static void bad_listings(uint64_t i, unsigned times)
 {
-    make_list(&rng, &list, &written, rng_once_in(&rng, 2) ? MAKE_CHUNK + 20 : 12 + rng_below(&rng, 100));
+    any_list(rng_once_in(&rng, 2) ? MAKE_CHUNK + 20 : 12 + rng_below(&rng, 100));
     make_listing(&list, &made);
     if (times == 1)
         make_damage_listing(&rng, &made, (unsigned)(i % MAKE_LISTING_DAMAGES));
@@ -683,7 +710,7 @@ static void cuts(uint64_t i)
     static uint8_t any[2048];
 
     if (i == 0 || n > whole.n) {
-        make_list(&rng, &list, &written, 12 + rng_below(&rng, 548));
+        any_list(12 + rng_below(&rng, 548));
         make_listing(&list, &whole);
         n = 0;
     }
@@ -700,7 +727,7 @@ static void cuts(uint64_t i)
 /* Every byte as kind. */
 static void kinds(uint64_t i)
 {
-    make_list(&rng, &list, &written, 12 + rng_below(&rng, 100));
+    any_list(12 + rng_below(&rng, 100));
     hold_written((unsigned)(i % 256));
 }
 
@@ -720,6 +747,8 @@ static void long_listings(uint64_t i)
         break;
     }
     make_counts(&rng, &list, ensembles, services);
+    if (rng_once_in(&rng, 8))
+        make_unknown(&rng, &list);
     make_listing(&list, &made);
     if (i % 3 == 1)
         make_damage_listing(&rng, &made, rng_below(&rng, MAKE_LISTING_DAMAGES));
@@ -745,7 +774,7 @@ static size_t from_hex(const char *hex, uint8_t *to)
 
 static void samples(void)
 {
-    static const char listing[] = "5453 0123 01 454E 05 04 03 01 5356 0A01 00 03 00";
+    static const char listing[] = "5453 0123 01 454E 05 04 03 01 5356 0A01 00 03 00", unknown[] = "5453 0123 01 4555 05 01";
     static const struct {
         const char *chunk;
         uint64_t want;
@@ -759,7 +788,8 @@ static void samples(void)
         {"40", 9, ""},
         {"40 03", 5, ""},
         {"00 03 01 23 01", 9, ""},
-        {"00 03 01 23 01 05 E1 83 01 0A 01 E6", 11, ""},
+        {"00 03 01 23 01 05 E1 83 01 0A 01 E6", 9 << 16 | 1 << 8, unknown},
+        {"00 03 01 23 01 05 E1 83 01 0A 01", 9, ""},
         {"00 03 01 23 01 05 E0 83 01 0A 01", 9, ""},
     };
     uint8_t input[64], want[64];
@@ -785,10 +815,13 @@ static void samples(void)
     n = from_hex("32 00 00 03 01 23 01 05 E0 83 01 0A 01 E6", want);
     memset(want + n, 0xFF, 23);
     {
-        static const uint64_t one_segment = 1 << 16;
+        static const uint64_t one_segment = 1 << 16, bad_listing = 13;
 
         now.want = &one_segment;
         now.want_bytes = want;
+        hold();
+        now.n = from_hex(unknown, input);
+        now.want = &bad_listing;
         hold();
     }
 }
@@ -840,6 +873,7 @@ static int run_all(void)
         both[0] += seen[0][i];
         both[1] += seen[1][i];
     }
+    printf("of the reader's listings, with unknown ensembles: %llu\n", (unsigned long long)seen_unknown);
     printf("reader %llu calls, writer %llu calls, %llu in all: no difference\n", (unsigned long long)both[0],
            (unsigned long long)both[1], (unsigned long long)(both[0] + both[1]));
     if (plant != 0)

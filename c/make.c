@@ -18,8 +18,10 @@ static void make_fields(struct rng *r, struct make_list *list)
     unsigned i;
 
     list->stream = (uint16_t)rng_edge(r, 0xFFFF);
+    list->unknown = 0;
     for (i = 0; i < list->ensembles; i++) {
         list->ensemble[i].id = (uint8_t)rng_edge(r, 0xFF);
+        list->ensemble[i].version = 0;
         list->ensemble[i].flags = (uint8_t)rng_edge(r, 7);
         list->ensemble[i].channel = (uint8_t)rng_edge(r, 31);
     }
@@ -37,6 +39,7 @@ void make_list(struct rng *r, struct make_list *list, const struct make_shape *s
 {
     const size_t header = 5u + shape->header, ensemble = 4u + shape->ensemble, service = 3u + shape->service;
     const unsigned style = rng_below(r, 6);
+    const int empty = rng_once_in(r, 4);
     size_t left = limit < header ? 0 : limit - header;
     unsigned want;
 
@@ -50,8 +53,8 @@ void make_list(struct rng *r, struct make_list *list, const struct make_shape *s
         most = left / service > 255 ? 255 : (unsigned)(left / service);
         if (style == 1) /* one ensemble, filled up */
             count = most;
-        else if (style == 2) /* many, nearly all empty */
-            count = most > 0 && rng_once_in(r, 16);
+        else if (style == 2) /* many, all or nearly all of them empty */
+            count = most > 0 && !empty && rng_once_in(r, 16);
         else if (style == 3) /* any, the last ones short of room */
             count = rng_below(r, most + 1);
         else
@@ -84,6 +87,21 @@ void make_counts(struct rng *r, struct make_list *list, unsigned ensembles, unsi
             list->ensemble[at].services++;
         }
     make_fields(r, list);
+}
+
+void make_unknown(struct rng *r, struct make_list *list)
+{
+    const unsigned style = rng_below(r, 6);
+    const unsigned one = list->ensembles == 0 ? 0 : style == 1 ? list->ensembles - 1 : rng_below(r, list->ensembles);
+    unsigned i;
+
+    list->unknown = 0;
+    for (i = 0; i < list->ensembles; i++) {
+        const int is_unknown = style < 2 ? i == one : style == 2 ? i != one : style == 3 || rng_once_in(r, 2);
+
+        list->ensemble[i].version = (uint8_t)(is_unknown ? 1 + rng_edge(r, 30) : 0);
+        list->unknown += is_unknown;
+    }
 }
 
 size_t make_size(const struct make_list *list, const struct make_shape *shape)
@@ -125,7 +143,7 @@ void make_chunk(struct rng *r, const struct make_list *list, const struct make_s
 
         to->start[i] = (size_t)(at - to->bytes);
         *at++ = ensemble->id;
-        *at++ = (uint8_t)reserved(r, shape, 0xE0);
+        *at++ = (uint8_t)(reserved(r, shape, 0xE0) | ensemble->version);
         *at++ = (uint8_t)(ensemble->flags << 5 | ensemble->channel);
         at = extension(r, at, shape->ensemble);
         *at++ = ensemble->services;
@@ -155,11 +173,43 @@ void make_stuffing(struct rng *r, struct made *chunk, size_t length)
     chunk->n = length;
 }
 
+/* The records of an ensemble, to at; their end. */
+static uint8_t *list_known(const struct make_ensemble *ensemble, const struct make_service *service, uint8_t *at)
+{
+    unsigned i;
+
+    *at++ = 0x45;
+    *at++ = 0x4E;
+    *at++ = ensemble->id;
+    *at++ = ensemble->flags;
+    *at++ = ensemble->channel;
+    *at++ = ensemble->services;
+    for (i = 0; i < ensemble->services; i++, service++) {
+        *at++ = 0x53;
+        *at++ = 0x56;
+        *at++ = (uint8_t)(service->id >> 8);
+        *at++ = (uint8_t)service->id;
+        *at++ = service->multi;
+        *at++ = service->status;
+        *at++ = service->sp;
+    }
+    return at;
+}
+
+static uint8_t *list_unknown(const struct make_ensemble *ensemble, uint8_t *at)
+{
+    *at++ = 0x45;
+    *at++ = 0x55;
+    *at++ = ensemble->id;
+    *at++ = ensemble->version;
+    return at;
+}
+
 void make_listing(const struct make_list *list, struct made *to)
 {
     const struct make_service *service = list->service;
     uint8_t *at = to->bytes;
-    unsigned i, j;
+    unsigned i;
 
     memset(&to->shape, 0, sizeof to->shape);
     to->ensembles = list->ensembles;
@@ -172,22 +222,8 @@ void make_listing(const struct make_list *list, struct made *to)
         const struct make_ensemble *ensemble = &list->ensemble[i];
 
         to->start[i] = (size_t)(at - to->bytes);
-        *at++ = 0x45;
-        *at++ = 0x4E;
-        *at++ = ensemble->id;
-        *at++ = ensemble->flags;
-        *at++ = ensemble->channel;
-        *at++ = ensemble->services;
-        for (j = 0; j < ensemble->services; j++) {
-            *at++ = 0x53;
-            *at++ = 0x56;
-            *at++ = (uint8_t)(service->id >> 8);
-            *at++ = (uint8_t)service->id;
-            *at++ = service->multi;
-            *at++ = service->status;
-            *at++ = service->sp;
-            service++;
-        }
+        at = ensemble->version == 0 ? list_known(ensemble, service, at) : list_unknown(ensemble, at);
+        service += ensemble->services;
     }
     to->n = (size_t)(at - to->bytes);
     to->start[i] = to->n;
@@ -288,9 +324,9 @@ void make_damage_chunk(struct rng *r, struct made *m, unsigned which)
     switch (which) {
     case 5: recount(r, m, 4u + m->shape.header); break;
     case 6: recount(r, m, start + 3 + m->shape.ensemble); break;
-    case 7:
+    case 7: /* once in 8 times to 0 */
         if (start + 1 < m->n)
-            m->bytes[start + 1] |= (uint8_t)(rng_once_in(r, 2) ? 1u << rng_below(r, 5) : 1 + rng_below(r, 31));
+            m->bytes[start + 1] = (uint8_t)((m->bytes[start + 1] & 0xE0) | (rng_once_in(r, 8) ? 0 : 1 + rng_edge(r, 30)));
         break;
     case 8:
         if (m->n > 0)
@@ -306,29 +342,45 @@ void make_damage_chunk(struct rng *r, struct made *m, unsigned which)
     }
 }
 
-void make_damage_listing(struct rng *r, struct made *m, unsigned which)
+/* An ensemble of a listing: its record, that one's length, one of its services, and the length of all of these.
+   What is not there is at m->n. */
+struct pick {
+    size_t ensemble, record, service, services;
+};
+
+static struct pick pick_ensemble(struct rng *r, const struct made *m)
 {
-    static const uint8_t marks[] = {0x54, 0x53, 0x45, 0x4E, 0x53, 0x56};
-    size_t ensemble, service;
+    struct pick p = {m->n, 6, m->n, 0};
     unsigned i, count;
 
-    /* An ensemble and one of its services; m->n where there is none. */
-    ensemble = service = m->n;
-    if (m->ensembles > 0) {
-        i = rng_below(r, m->ensembles);
-        ensemble = m->start[i];
-        count = (unsigned)((m->start[i + 1] - ensemble - 6) / 7);
-        if (count > 0)
-            service = ensemble + 6 + 7 * (size_t)(rng_once_in(r, 4) ? count - 1 : rng_below(r, count));
-    }
+    if (m->ensembles == 0)
+        return p;
+    i = rng_below(r, m->ensembles);
+    p.ensemble = m->start[i];
+    p.services = m->start[i + 1] - m->start[i];
+    if (p.services < p.record) /* EU */
+        p.record = 4;
+    p.services -= p.record;
+    count = (unsigned)(p.services / 7);
+    if (count > 0)
+        p.service = p.ensemble + p.record + 7 * (size_t)(rng_once_in(r, 4) ? count - 1 : rng_below(r, count));
+    return p;
+}
+
+void make_damage_listing(struct rng *r, struct made *m, unsigned which)
+{
+    static const uint8_t marks[] = {0x54, 0x53, 0x45, 0x4E, 0x53, 0x56, 0x45, 0x55};
+    const struct pick p = pick_ensemble(r, m);
+    unsigned i, count;
+
     switch (which) {
     case 5: recount(r, m, 4); break;
-    case 6: recount(r, m, ensemble + 5); break;
+    case 6: recount(r, m, p.ensemble + p.record - 1); break; /* an unknown one has its version there */
     case 7: {
-        size_t at = rng_once_in(r, 4) ? 0 : rng_once_in(r, 2) ? ensemble : service;
+        size_t at = rng_once_in(r, 4) ? 0 : rng_once_in(r, 2) ? p.ensemble : p.service;
 
         if (rng_once_in(r, 2)) { /* another record's mark */
-            i = 2 * rng_below(r, 3);
+            i = 2 * rng_below(r, 4);
             set(m, at, marks[i]);
             set(m, at + 1, marks[i + 1]);
         } else
@@ -340,16 +392,21 @@ void make_damage_listing(struct rng *r, struct made *m, unsigned which)
 
         i = rng_below(r, 5);
         count = rng_below(r, 4);
-        set(m, i < 2 ? ensemble + 3 + i : service + 2 + i,
+        set(m, i < 2 ? p.ensemble + 3 + i : p.service + 2 + i,
             count < 2 ? limits[i] + 1u : count == 2 ? 0x80u : limits[i] + 1u + rng_below(r, 255u - limits[i]));
         break;
     }
     case 9:
         i = rng_below(r, 4);
         if (i < 2)
-            cut_out(m, i == 0 ? ensemble : service, i == 0 ? 6 : 7);
+            cut_out(m, i == 0 ? p.ensemble : p.service, i == 0 ? p.record : 7);
         else
-            put_twice(m, i == 2 ? ensemble : service, i == 2 ? 6 : 7);
+            put_twice(m, i == 2 ? p.ensemble : p.service, i == 2 ? p.record : 7);
+        break;
+    case 10: /* its services cut out or left */
+        set(m, p.ensemble + 1, 0x55);
+        set(m, p.ensemble + 3, 1 + rng_edge(r, 30));
+        cut_out(m, p.ensemble + 4, p.record - 4 + (rng_once_in(r, 2) ? p.services : 0));
         break;
     default: damage(r, m, which); break;
     }

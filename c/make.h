@@ -17,11 +17,11 @@ enum {
     MAKE_LISTING = 5 + 255 * (6 + 7 * 255), /* the longest that counts of 255 allow */
     MAKE_ROOM = MAKE_LISTING + 4096,        /* and what a damage may append */
     MAKE_CHUNK_DAMAGES = 10,
-    MAKE_LISTING_DAMAGES = 10
+    MAKE_LISTING_DAMAGES = 11
 };
 
 struct make_ensemble {
-    uint8_t id, flags, channel, services;
+    uint8_t id, version, flags, channel, services; /* of a version other than 0 it is unknown */
 };
 
 struct make_service {
@@ -32,6 +32,7 @@ struct make_service {
 struct make_list {
     uint16_t stream;
     unsigned ensembles;
+    unsigned unknown;  /* of them */
     unsigned services; /* of all ensembles */
     struct make_ensemble ensemble[MAKE_ENSEMBLES];
     struct make_service service[MAKE_SERVICES]; /* in order */
@@ -55,11 +56,14 @@ struct made {
 /* Any shape, of either kind, reserved bits random. */
 struct make_shape make_shape(struct rng *r);
 
-/* A list whose chunk of this shape is at most so long (or has no ensembles). */
+/* A list whose chunk of this shape is at most so long (or has no ensembles); none is unknown. */
 void make_list(struct rng *r, struct make_list *list, const struct make_shape *shape, size_t limit);
 
-/* A list with these counts; the services are spread over the ensembles. */
+/* A list with these counts; the services are spread over the ensembles, of which none is unknown. */
 void make_counts(struct rng *r, struct make_list *list, unsigned ensembles, unsigned services);
+
+/* Makes ensembles of the list unknown: one, the last, all but one, all, or any; with their services. */
+void make_unknown(struct rng *r, struct make_list *list);
 
 /* The length of the list's chunk, without stuffing. */
 size_t make_size(const struct make_list *list, const struct make_shape *shape);
@@ -76,7 +80,7 @@ void make_listing(const struct make_list *list, struct made *to);
    0 a byte changed, 1 several bytes changed, 2 a byte cut out, 3 a cut at the end, 4 bytes appended,
    5 the number of ensembles and 6 a number of services raised or lowered;
    for a chunk 7 a version set, 8 the major set, 9 an extension length or the kind changed;
-   for a listing 7 a mark broken, 8 a field over its limit, 9 a record cut out or doubled. */
+   for a listing 7 a mark broken, 8 a field over its limit, 9 a record cut out or doubled, 10 an ensemble made unknown. */
 void make_damage_chunk(struct rng *r, struct made *chunk, unsigned which);
 void make_damage_listing(struct rng *r, struct made *listing, unsigned which);
 

@@ -72,8 +72,9 @@ static void spoil_chunk(unsigned how)
 {
     switch (how) {
     case 0: make_damage_chunk(&rng, &made, 8); break;
-    case 1: make_damage_chunk(&rng, &made, 7); break;
-    case 2: /* a count that no chunk has room for */
+    case 1: case 2: /* a count that no chunk has room for; 1: the last ensemble's, made unknown */
+        if (how == 1 && made.ensembles > 0)
+            made.bytes[made.start[made.ensembles - 1] + 1] |= (uint8_t)(1 + rng_below(&rng, 31));
         made.bytes[made.ensembles > 0 ? made.start[made.ensembles - 1] + 3 + made.shape.ensemble
                                       : 4u + made.shape.header] = 255;
         break;
@@ -93,6 +94,8 @@ static unsigned any_segments(unsigned kind, uint8_t to[MAKE_PLACES][MAKE_SEGMENT
 
     shape.kind = kind;
     make_list(&rng, &list, &shape, most);
+    if (rng_once_in(&rng, 3))
+        make_unknown(&rng, &list);
     make_chunk(&rng, &list, &shape, &made);
     if (rng_once_in(&rng, 2))
         make_stuffing(&rng, &made, most - rng_below(&rng, MAKE_PAYLOAD));
@@ -203,6 +206,8 @@ static void pair(int longest)
         else {
             shape = make_shape(&rng);
             make_list(&rng, &list, &shape, MAKE_PAYLOAD);
+            if (rng_once_in(&rng, 4))
+                make_unknown(&rng, &list);
         }
         shape.kind = kind;
         put_chunk(&shape);

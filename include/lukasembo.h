@@ -33,10 +33,12 @@
  * The listing: records, each with a mark of two letters; fields of one byte, or of two where it says so, the high one first:
  *
  *     54 53 "TS"   transport stream id (2), number of ensembles                                               5 bytes, once
- *     45 4E "EN"   id, flags (4 SLT + 2 GAT + EAT), signaling channel version (0 to 31), number of services   6 bytes, each ensemble
- *     53 56 "SV"   id (2), multi (0 to 3), status (0 to 3), SP (0 or 1)                                       7 bytes, each service
+ *     45 4E "EN"   id, flags (4 SLT + 2 GAT + EAT), signaling channel version (0 to 31), number of services   6 bytes, each ensemble of version 0
+ *     45 55 "EU"   id, version (1 to 31)                                                                      4 bytes, each of another version
+ *     53 56 "SV"   id (2), multi (0 to 3), status (0 to 3), SP (0 or 1)                                       7 bytes, each service of an EN
  *
- * The order is the chunk's: TS, then each EN with its SVs right after it. */
+ * The order is the chunk's: TS, then each EN with its SVs right after it, or EU. The number in TS counts both. An EU says: the relay sends an ensemble
+ * of a version that this library does not know, and its services are not listed. */
 #ifndef LUKASEMBO_H
 #define LUKASEMBO_H
 
@@ -51,13 +53,12 @@ extern "C" {
 /* The numbers that these two calls give: R the reader, W the writer. */
 enum lukasembo_number {
     LUKASEMBO_ACCEPTED = 0,
-    LUKASEMBO_SHORT_BUFFER = 1,   /* R W: a listing buffer under LUKASEMBO_LISTING bytes, an output under LUKASEMBO_OUTPUT */
-    LUKASEMBO_OTHER_MAJOR = 5,    /* R: the major version is not 0 */
-    LUKASEMBO_TOO_LONG = 8,       /* R: a chunk over LUKASEMBO_CHUNK bytes */
-    LUKASEMBO_ENDS_EARLY = 9,     /* R: a chunk ends too early */
-    LUKASEMBO_OTHER_VERSION = 11, /* R: an ensemble's version is not 0 */
-    LUKASEMBO_BAD_LISTING = 13,   /* W: marks, counts and length do not agree, or a field is over its limit */
-    LUKASEMBO_TOO_MANY = 14       /* W: the chunk, 5 + 4 x ensembles + 3 x services bytes, would be over LUKASEMBO_CHUNK */
+    LUKASEMBO_SHORT_BUFFER = 1, /* R W: a listing buffer under LUKASEMBO_LISTING bytes, an output under LUKASEMBO_OUTPUT */
+    LUKASEMBO_OTHER_MAJOR = 5,  /* R: the major version is not 0 */
+    LUKASEMBO_TOO_LONG = 8,     /* R: a chunk over LUKASEMBO_CHUNK bytes */
+    LUKASEMBO_ENDS_EARLY = 9,   /* R: a chunk ends too early */
+    LUKASEMBO_BAD_LISTING = 13, /* W: marks, counts and length do not agree, a field is over its limit, or there is an EU */
+    LUKASEMBO_TOO_MANY = 14     /* W: the chunk, 5 + 4 x ensembles + 3 x services bytes, would be over LUKASEMBO_CHUNK */
 };
 
 /* current_next: for the next frame, or for this one */
@@ -86,11 +87,12 @@ static inline size_t lukasembo_length(uint64_t answer) { return (size_t)(answer 
 static inline size_t lukasembo_segments(uint64_t answer) { return (size_t)(answer >> 16); }
 
 /* Reads a chunk, of any minor edition, with its stuffing or without. Its listing goes to the start of the buffer and bytes past it stay; a refusal
- * writes nothing. Refusals, in the order of the checks: 1, 8, 9, 5, 9, then for each ensemble 9, 11, 9. */
+ * writes nothing. Refusals, in the order of the checks: 1, 8, 9, 5, 9, then for each ensemble 9, 9. */
 uint64_t lukasembo_read(const uint8_t *chunk, size_t chunk_length, uint8_t *buffer, size_t buffer_length);
 
 /* Writes the segments of a whole listing, as a chunk of minor edition 0, for this frame (true, LUKASEMBO_THIS) or the next (false, LUKASEMBO_NEXT). They
- * go to the start of the output and bytes past them stay; a refusal writes nothing. Refusals, in the order of the checks: 1, 13, 14.
+ * go to the start of the output and bytes past them stay; a refusal writes nothing. Refusals, in the order of the checks: 1, 13, 14. A listing
+ * with EU is refused with 13.
  * The compiler makes 0 or 1 of what is given for a bool, so that a segment's seg[0] & 2 is a kind as it stands. (The function itself has a u8 there,
  * which x86-64 passes in the same way.) */
 uint64_t lukasembo_write(const uint8_t *listing, size_t listing_length, bool kind, uint8_t *output, size_t output_length);

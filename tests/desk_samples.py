@@ -150,8 +150,9 @@ def gathered():
     bench.seg("32 01", one).seg("other payload", made("3201", TAIL)).ga().seg("32 01", one)
     bench = Bench().seg("32 00", made("3200", THIS))
     for name, text in [
-        ("kind differs", NEXT.hex()), ("early end", "0003012301 05E083FF"), ("version", "0003012301 05E18300"),
-        ("major", "4003012300"), ("early end, kind differs", "0002012301 05E083FF"), ("version, kind differs", "0002012301 05E1"),
+        ("kind differs", NEXT.hex()), ("early end", "0003012301 05E083FF"), ("unknown ensemble", "0003012301 05E18300"),
+        ("major", "4003012300"), ("early end, kind differs", "0002012301 05E083FF"),
+        ("unknown ensemble, kind differs", "0002012301 05E18300"), ("unknown ensemble cut, kind differs", "0002012301 05E1"),
         ("major, kind differs", "C002012300"),
     ]:
         segment = made("3200", bytes.fromhex(text))

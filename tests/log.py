@@ -1,5 +1,5 @@
 #!/usr/bin/env python3
-"""Prints what the log program must write: document 01's desk and log once more, in Python, from the document alone.
+"""Prints what the log program must write: document 01's desk and log once more, in Python, from the documents alone.
 
     python3 tests/log.py < LOG
 """

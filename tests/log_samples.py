@@ -3,11 +3,12 @@
 
     python3 tests/log_samples.py
 
-It writes crates/log_samples/data, crates/log_samples/args, crates/log_samples/stdout, crates/log/stdin and crates/log/stdout. A log is made of steps, each a
-record with the answer that document 01 demands, said here without the desk of tests/log.py; both must agree. Only long_night has no
-such answers.
+It writes crates/log_samples/data, crates/log_samples/args, crates/log_samples/stdout, crates/log/stdin and crates/log/stdout. A log is
+made of steps, each a record with the answer that documents 01 and 02 demand, said here without the desk of tests/log.py; both must agree.
+Only long_night has no such answers.
 """
 import collections
+import itertools
 import pathlib
 import re
 import sys
@@ -16,7 +17,7 @@ sys.dont_write_bytecode = True
 
 from log import transcript
 from night import long_night
-from pieces import Dice, bent, chance, chunk, cut, fr, gives, miss, no, ones, plain, sent, turned, zeros
+from pieces import Dice, bent, chance, chunk, cut, fr, gives, listing, miss, no, ones, plain, sent, turned, zeros
 
 CRATES = pathlib.Path(__file__).resolve().parent.parent / "crates"
 SAMPLE = bytes.fromhex("5347 3000 0002012301 05E08301 0A01E6" + 23 * "FF" + "4652 4652")
@@ -28,7 +29,7 @@ FR none
 END 0
 """
 SHAPES = ["GA", "FR none", "FR n", "SG 0 missing n", "SG 0 missing 0", "SG 0 list this n", "SG 0 list next n",
-          "SG 3", "SG 4", "SG 5", "SG 6", "SG 7", "SG 9", "SG 10", "SG 11", "END 0", "END 15"]
+          "SG 3", "SG 4", "SG 5", "SG 6", "SG 7", "SG 9", "SG 10", "END 0", "END 15"]
 GA, NONE = [(b"GA", "GA")], [(b"FR", "FR none")]
 # A and B bring TWO for this frame, C and D for the next; ONLY and SPARE bring ONE, in a single piece
 ONE, TWO, LONG = plain(1), plain(10), plain(183, 0xFEDC)
@@ -63,15 +64,17 @@ def refusals():
         steps += miss(1, A) + no(7, other, B, A, other) + NONE + sent(TWO, "this") + GA
     # by a completed chunk: it's held and complete, so repeats lack 0. Of either kind, since 10 comes last. Stuffing is FF
     for number, text in [(5, "4003012300"), (5, "8002"), (5, "C003" + 33 * "00"), (9, "000301230105E083FF"), (9, "00030123FF" + 30 * "00"),
-                         (11, "00030123010501"), (11, "00030123FF"), (11, "000201230205E0830006F0"), (10, None)]:
+                         (9, "00030123010501"), (9, "00030123FF"), (9, "000201230205E0830006F0"), (10, None)]:
         for kind, differs in ("this", "0002012300"), ("next", "0003012300"):
             record, = cut(bytes.fromhex(text or differs), kind)
             steps += GA + no(number, record) + miss(0, record, bent(record, 0x1000)) + no(7, bent(record, 0, 1), record)
-    # the same in two pieces, and the list from before stays
-    good = chunk((1, plain(8)[1] + [(6, 0, 0, [])]), "next")
-    for number, at, mask in (5, 0, 0x40), (11, 34, 1), (9, 36, 255), (10, 1, 1):
+    # the same in two pieces, and the list from before stays; with 1 for the last ensemble's version the chunk is listed
+    good, trial = chunk((1, plain(8)[1] + [(6, 0, 0, [])]), "next"), (1, plain(8)[1] + [(6, 0, 0, [], 1)])
+    for number, at, mask in (5, 0, 0x40), (None, 34, 1), (9, 36, 255), (10, 1, 1):
         first, second = cut(turned(good, at, mask), "next")
-        steps += GA + sent(ONE, "next") + GA + miss(1, second, second) + no(number, first) + miss(0, second, first) + fr(ONE) + NONE
+        steps += GA + sent(ONE, "next") + GA + miss(1, second, second)
+        steps += no(number, first) if number else gives(trial, "next", first)
+        steps += miss(0, second, first) + fr(ONE if number else trial) + NONE
     return steps + miss(1, A) + [(b"SA" + B[2:] + B + b"FRGA", "END 15")]
 
 
@@ -117,6 +120,50 @@ def shorter_list():
     return steps + fr(short) + sent(LONG, "next") + GA + sent(short, "next") + fr(short) + sent(bare, "this") + NONE + NONE
 
 
+def trial_ensembles():
+    dice, (ts, (before, after)) = Dice(4), NOTICES
+    # one between two good ones, in several segments; what is sent inside it isn't listed, so both lists print the same
+    ours = ts, [before, (7, 7, 31, plain(9)[1][0][3], 1), after]
+    same = ts, [before, (7, 0, 16, [(0x5356, 3, 3, 1), (0x454E, 2, 0, 0)], 1), after]
+    assert listing(ours) == listing(same)
+    steps = sent(ours, "this", h=3, e=2, s=1) + NONE + sent(ours, "next", h=3, e=2, s=1) + fr(ours) + NONE
+    for minor, h, e, s in (0, 0, 0, 0), (1, 0, 7, 3), (7, 7, 0, 7), (4, 2, 1, 2):
+        for kind in "this", "next":
+            steps += sent(same, kind, dice.shuffled, dice, minor=minor, h=h, e=e, s=s)
+        steps += fr(ours)
+    # a clash spoils the slot, and the list stays
+    x, y, z = cut(chunk(ours, "next", h=3, e=2, s=1), "next")
+    steps += miss(2, y) + miss(1, x, y) + gives(ours, "next", z) + miss(0, x, y, z) + no(7, bent(y, 0, 1), y) + fr(ours) + NONE
+    # all of them unknown: three, and as many as a chunk holds
+    three = 1, [(5, 4, 3, [], 1), (6, 7, 0, [(0x0B01, 0, 3, 0)], 2), (7, 0, 0, [], 31)]
+    most = 0xFEDC, [(i, i % 8, i % 32, [], 1 + i % 31) for i in range(138)]
+    assert len(chunk(most, "this")) == 557
+    for what in three, most:
+        steps += sent(what, "this") + sent(what, "next", order=lambda pieces: pieces[::-1]) + fr(what) + NONE
+    # the last one unknown, in one segment or two, without stuffing: its fields cut, its services cut, or all of it there
+    for n, services, e, s in (8, 0, 0, 0), (5, 0, 2, 1), (4, 3, 2, 0), (4, 2, 2, 0), (20, 0, 0, 0), (19, 1, 0, 0), (19, 0, 0, 0):
+        what = ts, plain(n)[1] + [(6, 7, 31, plain(services)[1][0][3], 16)]
+        for kind, of in itertools.product(("this", "next"), repeat=2):
+            data = chunk(what, of, e=e, s=s)
+            over = len(data) % 35
+            *first, last = cut(data[:len(data) - over], kind)
+            steps += sent(ONE, "next") + GA + miss(1, *first)
+            steps += no(9, last) if over else no(10, last) if of != kind else gives(what, kind, last)
+            steps += miss(0, *first, last) + fr(ONE if over or of != kind or kind == "this" else what)
+    # reserved bits of any sort beside a version; with 0 it's a good ensemble
+    for bits in 0, 255, *range(32, 255, 32):
+        for version in [], [1], [16], [31]:
+            what = ts, [(*before, *version), after]
+            steps += sent(what, "this", noise=lambda: bits) + sent(what, "next", noise=lambda: bits) + fr(what)
+    # and by chance
+    for _ in range(20):
+        for kind in "this", "next":
+            what = chance(dice, 2 + dice(4), 8, True)
+            steps += sent(what, kind, dice.shuffled, dice, minor=dice(8), h=dice(8), e=dice(8), s=dice(8))
+        steps += fr(what)
+    return steps + NONE
+
+
 def gatherings():
     x, y, z = cut(chunk(plain(24), "this"), "this")
     steps = GA + miss(1, A) + GA + miss(1, B) + gives(TWO, "this", A) + GA + sent(TWO, "this") + sent(ONE, "next") + GA + GA
@@ -152,7 +199,7 @@ def record_by_record():
 def main():
     some = sent(ONE, "next") + miss(1, A) + fr(ONE) + miss(1, A)
     logs = {"sample": sent(ONE, "next") + fr(ONE) + NONE}
-    logs |= {make.__name__: make() for make in (worked, refusals, slips, interleaved, clash_after_list, shorter_list)}
+    logs |= {make.__name__: make() for make in (worked, refusals, slips, interleaved, clash_after_list, shorter_list, trial_ensembles)}
     tails = {"mark_cut": b"S", "mark_cut_f": b"F", "segment_cut": B[:38], "segment_bare": b"SG", "unknown_mark": b"XXFR",
              "unknown_f": b"FG" + B[2:], "unknown_g": b"GRFR"}
     logs |= {name: some + [(tail, "END 15")] for name, tail in tails.items()}

@@ -7,7 +7,7 @@ def long_night():
     dice, steps, waiting, past, bits = Dice(3), [], {}, {}, set()
 
     def fresh(kind):
-        """A new chunk of this kind: seldom a long one, now and then one with a wrong kind, major, version or count."""
+        """A new chunk of this kind: seldom a long one, now and then one with another kind, major, version or count."""
         h, e, what = dice(8), dice(8), chance(dice, 1 + dice(3), 7) if dice(12) else chance(dice, dice(7), 36)
         data = chunk(what, kind, dice(8), h, e, dice(3), dice)[:560]
         if dice(5) == 0:

@@ -1,6 +1,7 @@
-"""What the stored logs of tests/log_samples.py are made of: lists, their listings, chunks, SG records, and steps, from document 01.
+"""What the stored logs of tests/log_samples.py are made of: lists, their listings, chunks, SG records, and steps, from documents 01 and 02.
 
 A list is its transport_stream_id and its ensembles: (id, flags, channel version, services), a service being (id, multi, status, SP).
+An unknown ensemble has its version, which is not 0, as a fifth; its flags, channel version and services are sent and not listed.
 A step is a record and the answer to it.
 """
 import random
@@ -33,17 +34,24 @@ def plain(services, ts=0x0123):
     return ts, [(5, 4, 3, [(0x0A01 + i, i % 4, (i // 4 + 3) % 4, i // 16 % 2) for i in range(services)])]
 
 
-def chance(dice, ensembles, services):
-    """A list with so many ensembles and at most so many services in each."""
+def chance(dice, ensembles, services, unknown=False):
+    """A list with so many ensembles and at most so many services in each; if asked for, about half of the ensembles are unknown."""
     def service():
         return dice(65536), dice(4), dice(4), dice(2)
-    return dice(65536), [(dice(), dice(8), dice(32), [service() for _ in range(dice(services + 1))]) for _ in range(ensembles)]
+
+    def ensemble():
+        known = dice(), dice(8), dice(32), [service() for _ in range(dice(services + 1))]
+        return (*known, 1 + dice(31)) if unknown and dice(2) else known
+    return dice(65536), [ensemble() for _ in range(ensembles)]
 
 
 def listing(what):
     ts, ensembles = what
     out = struct.pack(">2sHB", b"TS", ts, len(ensembles))
-    for ident, flags, channel, services in ensembles:
+    for ident, flags, channel, services, *version in ensembles:
+        if version:
+            out += struct.pack(">2sBB", b"EU", ident, *version)
+            continue
         out += struct.pack(">2sBBBB", b"EN", ident, flags, channel, len(services))
         for service in services:
             out += struct.pack(">2sHBBB", b"SV", *service)
@@ -57,8 +65,8 @@ def chunk(what, kind, minor=0, h=0, e=0, s=0, noise=ones):
     ts, ensembles = what
     out = struct.pack(">HH", minor << 11 | h << 8 | e << 5 | s << 2 | noise() & 2 | (kind == "this"), ts)
     out += extension(h) + bytes([len(ensembles)])
-    for ident, flags, channel, services in ensembles:
-        out += bytes([ident, noise() & 0xE0, flags << 5 | channel]) + extension(e) + bytes([len(services)])
+    for ident, flags, channel, services, *version in ensembles:
+        out += bytes([ident, noise() & 0xE0 | sum(version), flags << 5 | channel]) + extension(e) + bytes([len(services)])
         for ident, multi, status, sp in services:
             out += struct.pack(">HB", ident, noise() & 0xE0 | multi << 3 | status << 1 | sp) + extension(s)
     return out

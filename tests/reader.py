@@ -1,5 +1,5 @@
 #!/usr/bin/env python3
-"""Prints what crates/reader_samples must write: document 01's reader once more, in Python, from the document alone.
+"""Prints what crates/reader_samples must write: the reader of documents 01 and 02 once more, in Python, from the documents alone.
 
     python3 tests/reader.py > crates/reader_samples/stdout
 """
@@ -7,7 +7,7 @@ import struct
 
 
 def read(chunk, room):
-    """The answer of document 01's reader: (number, kind, minor, listing)."""
+    """The reader's answer: (number, kind, minor, listing)."""
     if room < 1292:
         return 1, None, 0, b""
     if len(chunk) > 560:
@@ -25,17 +25,19 @@ def read(chunk, room):
     for _ in range(chunk[4 + h]):
         if len(rest) < 4 + e:
             return 9, None, 0, b""
-        if rest[1] & 31:
-            return 11, None, 0, b""
-        count = rest[3 + e]
-        out += b"EN" + bytes([rest[0], rest[2] >> 5, rest[2] & 31, count])
+        ident, version, bits, count = rest[0], rest[1] & 31, rest[2], rest[3 + e]
         rest = rest[4 + e:]
         if len(rest) < count * (3 + s):
             return 9, None, 0, b""
-        for _ in range(count):
-            ident, bits = struct.unpack(">HB", rest[:3])
+        services, rest = rest[:count * (3 + s)], rest[count * (3 + s):]
+        # what is inside an unknown ensemble is walked over
+        if version:
+            out += b"EU" + bytes([ident, version])
+            continue
+        out += b"EN" + bytes([ident, bits >> 5, bits & 31, count])
+        for at in range(0, len(services), 3 + s):
+            ident, bits = struct.unpack(">HB", services[at:at + 3])
             out += b"SV" + struct.pack(">HBBB", ident, bits >> 3 & 3, bits >> 1 & 3, bits & 1)
-            rest = rest[3 + s:]
     return 0, "this" if current else "next", minor, out
 
 
@@ -56,6 +58,12 @@ def ensemble(ident, e, s, services):
     return bytes([ident, 0xE0, 0x5F]) + b"\xb2" * e + bytes([services]) + body
 
 
+def trial(ident, e, s, services):
+    """An unknown ensemble: one like `ensemble`, of a version from 1 to 31."""
+    known = ensemble(ident, e, s, services)
+    return known[:1] + bytes([0xE1 + ident % 31]) + known[2:]
+
+
 FIRST = bytes.fromhex("0003 0123 01 05E083 01 0A01E6")
 
 
@@ -68,8 +76,12 @@ def main():
         ("all flags, channel 31, multi 3, SP", "0003FFFE01 FFE0FF01 1234FF"), ("major 3, header cut", "C70301"),
         ("header cut in its extension", "07030123 00000000000000"), ("header and its extension", "07030123 0000000000000000"),
         ("version 1, no room for its services", "0003012301 05E183FF"), ("version 1, fields cut", "0003012301 05E183"),
-        ("second ensemble of version 1", "0003012302 05E08300 06FF0000"), ("second ensemble cut", "0003012302 05E08300 06E000"),
-        ("255 ensembles", "00030123FF 05E08300 06E00000"),
+        ("version 1, services cut", "0003012301 05E18301 0A01"), ("version 1, reserved bits zeros", "0003012301 05018300"),
+        ("second ensemble of version 31", "0003012302 05E08300 06FF0000"),
+        ("last ensemble of version 2, services cut", "0003012302 05E08300 06E20002 0B01E6 0B02"),
+        ("a trial ensemble between two", "01470123AA03 05E083BBCC01 0A01E6DD 06E1FFBBCC02 0B01E6DD 0B02E6DD 07E003BBCC00"),
+        ("all ensembles unknown", "0003012303 05E18300 06E20001 0B01E6 07FF0000"),
+        ("second ensemble cut", "0003012302 05E08300 06E000"), ("255 ensembles", "00030123FF 05E08300 06E00000"),
     ]:
         show(name, bytes.fromhex(text))
     one = header(0, 0, 0, 1) + ensemble(5, 0, 0, 183)
@@ -83,13 +95,19 @@ def main():
     assert len(three) == 560
     show("three ensembles, 181 services", three)
     show("three ensembles, 561 bytes", three + b"\xff")
+    unknown = header(0, 0, 0, 138) + b"".join(trial(i, 0, 0, 0) for i in range(138))
+    assert len(unknown) == 557
+    show("138 unknown ensembles", unknown)
+    show("138 unknown ensembles, cut", unknown[:-1])
     small = header(7, 7, 7, 1) + ensemble(5, 7, 7, 1)
     show("extensions 7", small)
     show("extensions 7, cut", small[:-1])
-    full = header(7, 7, 7, 8) + ensemble(0, 7, 7, 4) + b"".join(ensemble(i, 7, 7, 6) for i in range(1, 8))
+    seven = b"".join(ensemble(i, 7, 7, 6) for i in range(1, 8))
+    full = header(7, 7, 7, 8) + ensemble(0, 7, 7, 4) + seven
     assert len(full) == 560
     show("extensions 7, 560 bytes", full)
     show("extensions 7, 559 bytes", full[:-1])
+    show("extensions 7, the first unknown", header(7, 7, 7, 8) + trial(0, 7, 7, 4) + seven)
     for n in range(550):
         show("stuffing", FIRST + bytes([n % 256]) * n)
     for room in (0, 1291, 1292, 1400):

@@ -11,7 +11,7 @@ import sys
 
 sys.dont_write_bytecode = True
 
-from writer import ENOUGH, FIRST, TWO, but, made, sized, write
+from writer import ENOUGH, FIRST, TWO, UNKNOWN, but, made, sized, write
 
 CRATES = pathlib.Path(__file__).resolve().parent.parent / "crates"
 UNCLEAR = b"write: not the word this or next, a space, and a listing in hex\n"
@@ -43,13 +43,16 @@ TEXTS = {
     "longest_this": typed("this", LONGEST), "longest_next": typed("next", LONGEST), "full_16": typed("this", sized(560)),
     "full_15": typed("next", sized(525)), "one_more": typed("this", sized(526)), "ensembles_138": typed("this", made(*[0] * 138)),
     # 14
-    "services_184": typed("this", made(184)), "ensembles_139": typed("next", made(*[0] * 139)), "ensembles_255": typed("this", made(*[0] * 255)),
+    "services_184": typed("this", made(184)), "ensembles_139": typed("next", made(*[0] * 139)),
+    "ensembles_255": typed("this", made(*[0] * 255)),
     # 13, also where 14 would be
     "no_listing": typed("this", b""), "cut": typed("next", TWO[:-1]), "trailing": typed("this", TWO + b"\x00"),
-    "flags_8": typed("this", but(TWO, (8, 8))), "services_184_SP_2": typed("next", made(184)[:-1] + b"\x02"),
+    "flags_8": typed("this", but(TWO, (8, 8))), "unknown_ensemble": typed("this", UNKNOWN),
+    "services_184_SP_2": typed("next", made(184)[:-1] + b"\x02"),
     # no text of the form
-    "empty": b"", "word_alone": b"this", "no_space": b"this5453", "capital_word": b"This 5453\n", "odd": b"this 545\n", "no_digit": b"next 54g3\n",
-    "space_after": b"this 5453 \n", "two_newlines": b"this 5453\n\n", "newline_alone": b"\n", "other_word": b"that 5453\n",
+    "empty": b"", "word_alone": b"this", "no_space": b"this5453", "capital_word": b"This 5453\n", "odd": b"this 545\n",
+    "no_digit": b"next 54g3\n", "space_after": b"this 5453 \n", "two_newlines": b"this 5453\n\n", "newline_alone": b"\n",
+    "other_word": b"that 5453\n",
     # the longest text, and one byte more
     "most_bytes": b"this " + 65530 * b"5", "more_bytes": b"this " + 65531 * b"5",
 }

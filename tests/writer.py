@@ -1,5 +1,5 @@
 #!/usr/bin/env python3
-"""Prints what crates/writer_samples must write: document 01's writer once more, in Python, from the document alone.
+"""Prints what crates/writer_samples must write: document 01's writer once more, in Python, from the documents alone.
 
     python3 tests/writer.py > crates/writer_samples/stdout
 
@@ -36,6 +36,7 @@ def parsed(listing):
     (ts, count), rest = record(listing, b"TS", ">xxHB")
     ensembles = []
     for _ in range(count):
+        # the mark of an unknown ensemble, EU, is refused like any other
         (ident, flags, channel, number), rest = record(rest, b"EN", ">xxBBBB", 255, 7, 31)
         services = []
         for _ in range(number):
@@ -134,10 +135,15 @@ def but(listing, *edits):
     return bytes(out)
 
 
+def unknown(ident, version):
+    return b"EU" + bytes([ident, version])
+
+
 FIRST = bytes.fromhex("5453 0123 01 454E 05 04 03 01 5356 0A01 00 03 00")
 LIKE_MARKS = bytes.fromhex("5453 5356 01 454E 54 05 13 02 5356 454E 01 02 00 5356 5356 02 01 01")
 TWO = header(2) + ensemble(0x2B, 2) + ensemble(0x9D, 1)
 MARKS_OF_TWO = 0, 5, 11, 18, 25, 31
+UNKNOWN = FIRST[:5] + unknown(5, 1)
 
 
 # ---- cases
@@ -148,6 +154,8 @@ def samples(kind):
     show("empty", kind, b"")
     show("ids like marks", kind, LIKE_MARKS)
     show("two ensembles", kind, TWO)
+    show("an unknown ensemble", kind, UNKNOWN)
+    show("an unknown ensemble between", kind, header(3) + ensemble(0x2B, 2) + unknown(6, 1) + ensemble(0x9D, 1))
 
 
 def longest(kind):
@@ -189,14 +197,15 @@ def counts(kind):
         show(name, kind, but(TWO, *edits))
     for name, more in [
         ("trailing 0", b"\x00"), ("trailing ff", b"\xff"), ("trailing E", b"E"), ("trailing EN", b"EN"),
-        ("trailing ensemble", ensemble(7, 0)), ("trailing service", ensemble(7, 1)[6:]), ("trailing header", header(0)), ("twice", TWO),
+        ("trailing ensemble", ensemble(7, 0)), ("trailing service", ensemble(7, 1)[6:]), ("trailing unknown ensemble", unknown(7, 1)),
+        ("trailing header", header(0)), ("twice", TWO),
     ]:
         show(name, kind, TWO + more)
 
 
 def marks(kind):
     for at in MARKS_OF_TWO:
-        for mark in b"TS", b"EN", b"SV":
+        for mark in b"TS", b"EN", b"SV", b"EU":
             show(f"{mark.decode()} at {at}", kind, but(TWO, (at, mark[0]), (at + 1, mark[1])))
 
 

@@ -46,9 +46,8 @@ static int check_chunk(const uint8_t *chunk, size_t n, struct chunk_facts *facts
 
         if (left < f.ensemble)
             return 9;
-        if ((at[1] & 0x1F) != 0)
-            return 11;
         services = at[f.ensemble - 1];
+        length += (at[1] & 0x1F) == 0 ? 6 + 7 * services : 4; /* EN with its SVs, or EU */
         at += f.ensemble;
         left -= f.ensemble;
         loop = services * f.service;
@@ -56,7 +55,6 @@ static int check_chunk(const uint8_t *chunk, size_t n, struct chunk_facts *facts
             return 9;
         at += loop;
         left -= loop;
-        length += 6 + 7 * services;
     }
     f.length = length;
     *facts = f;
@@ -78,8 +76,18 @@ static void list_chunk(const uint8_t *chunk, const struct chunk_facts *facts, ui
     to[4] = (uint8_t)ensembles;
     to += 5;
     for (; ensembles > 0; ensembles--) {
+        const uint8_t version = at[1] & 0x1F;
         unsigned services = at[ensemble - 1];
 
+        if (version != 0) { /* unknown: its services are passed over */
+            to[0] = 'E';
+            to[1] = 'U';
+            to[2] = at[0];
+            to[3] = version;
+            to += 4;
+            at += ensemble + services * service;
+            continue;
+        }
         to[0] = 'E';
         to[1] = 'N';
         to[2] = at[0];
@@ -125,8 +133,8 @@ struct plain_read plain_read(const uint8_t *chunk, size_t n, uint8_t *buffer, si
 
 /* ---- The writer ---- */
 
-/* Whether marks, counts, length and values of a listing agree;
-   if so, *services is the number of services in all. */
+/* Whether marks, counts, length and values of a listing agree, and no ensemble
+   is unknown (EU); if so, *services is the number of services in all. */
 static int check_listing(const uint8_t *listing, size_t n, size_t *services)
 {
     size_t left, total = 0;

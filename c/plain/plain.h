@@ -1,4 +1,4 @@
-/* FIC chunks, segments and the desk of 01-scope.md, in plain C11. */
+/* FIC chunks, segments and the desk of document 01, with 02's unknown ensembles, in plain C11. */
 #ifndef PLAIN_H
 #define PLAIN_H
 
@@ -53,10 +53,11 @@ struct plain_answer {
     size_t length;
 };
 
-/* Reads a chunk; the listing goes to the start of buffer. */
+/* Reads a chunk; the listing goes to the start of buffer. An ensemble of a
+   version other than 0 is listed as EU, id, version, without its services. */
 struct plain_read plain_read(const uint8_t *chunk, size_t n, uint8_t *buffer, size_t room);
 
-/* Writes the segments of a listing to the start of out. */
+/* Writes the segments of a listing without EU to the start of out. */
 struct plain_write plain_write(const uint8_t *listing, size_t n, int kind, uint8_t *out, size_t room);
 
 void plain_fresh(struct plain_desk *desk);

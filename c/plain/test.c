@@ -39,6 +39,7 @@ static const uint8_t chunk5[] = {0x00, 0x03, 0x01, 0x23, 0x01};
 static const uint8_t list1[] = {0x54, 0x53, 0x01, 0x23, 0x01, 0x45, 0x4E, 0x05, 0x04, 0x03, 0x01,
                                 0x53, 0x56, 0x0A, 0x01, 0x00, 0x03, 0x00};
 static const uint8_t list3[] = {0x54, 0x53, 0x01, 0x23, 0x00};
+static const uint8_t list_unknown[] = {0x54, 0x53, 0x01, 0x23, 0x01, 0x45, 0x55, 0x05, 0x01};
 
 static int all(const uint8_t *p, size_t n, uint8_t value)
 {
@@ -94,11 +95,6 @@ static void reader_samples(void)
     CHECK(refuses(chunk4, 1, 9));
     CHECK(refuses(chunk4, 2, 5));
     CHECK(refuses(chunk5, 5, 9));
-    memcpy(c, chunk1, LEN(chunk1));
-    c[6] = 0xE1;
-    CHECK(refuses(c, LEN(chunk1), 11));
-    CHECK(refuses(c, 9, 11)); /* version before the services' length */
-    CHECK(refuses(c, 8, 9));  /* but after the ensemble's */
     for (n = 0; n < LEN(chunk1); n++)
         CHECK(refuses(chunk1, n, 9));
     for (n = 0; n < LEN(chunk2); n++)
@@ -126,6 +122,74 @@ static void reader_samples(void)
     CHECK(plain_read(chunk1, LEN(chunk1), buffer, PLAIN_LISTING).number == 0);
 }
 
+static void unknown_samples(void)
+{
+    /* e 2, s 1; the second ensemble has version 31 and two services. */
+    static const uint8_t between[] = {0x00, 0x46, 0x01, 0x23, 0x03,
+                                      0x05, 0xE0, 0x83, 0xA1, 0xA2, 0x01, 0x0A, 0x01, 0xE6, 0xA3,
+                                      0x06, 0x3F, 0x83, 0xA1, 0xA2, 0x02, 0x0B, 0x01, 0xE6, 0xA3, 0x0C, 0x01, 0xE6, 0xA3,
+                                      0x07, 0x00, 0x25, 0xA1, 0xA2, 0x00};
+    static const uint8_t list[] = {0x54, 0x53, 0x01, 0x23, 0x03,
+                                   0x45, 0x4E, 0x05, 0x04, 0x03, 0x01, 0x53, 0x56, 0x0A, 0x01, 0x00, 0x03, 0x00,
+                                   0x45, 0x55, 0x06, 0x1F,
+                                   0x45, 0x4E, 0x07, 0x01, 0x05, 0x00};
+    uint8_t c[PLAIN_CHUNK + 1], l[PLAIN_LISTING];
+    unsigned i;
+    size_t n;
+
+    CHECK(reads(between, LEN(between), 0, 0, list, LEN(list)));
+    for (n = 0; n < LEN(between); n++)
+        CHECK(refuses(between, n, 9));
+
+    /* The unknown one last; what follows it is stuffing. */
+    memcpy(c, between, LEN(between));
+    memcpy(l, list, LEN(list));
+    c[4] = l[4] = 2;
+    CHECK(reads(c, LEN(between), 0, 0, l, 22));
+    CHECK(reads(c, 29, 0, 0, l, 22));
+    for (n = 0; n < 29; n++)
+        CHECK(refuses(c, n, 9));
+
+    /* Every version, with every value of the reserved bits. */
+    memcpy(c, chunk1, LEN(chunk1));
+    memcpy(l, list_unknown, LEN(list_unknown));
+    for (i = 0; i < 256; i++) {
+        c[6] = (uint8_t)i;
+        l[8] = i % 32;
+        if (i % 32 == 0)
+            CHECK(reads(c, LEN(chunk1), 1, 0, list1, LEN(list1)));
+        else
+            CHECK(reads(c, LEN(chunk1), 1, 0, l, LEN(list_unknown)));
+        for (n = 0; n < LEN(chunk1); n++)
+            CHECK(refuses(c, n, 9));
+    }
+
+    /* As many as there is room for, none with services; one more. */
+    memset(c, 0, sizeof c);
+    c[4] = l[4] = 138;
+    for (i = 0; i < 138; i++) {
+        c[5 + 4 * i] = l[7 + 4 * i] = (uint8_t)i;
+        c[6 + 4 * i] = l[8 + 4 * i] = (uint8_t)(1 + i % 31);
+        memcpy(l + 5 + 4 * i, "EU", 2);
+    }
+    l[2] = l[3] = 0;
+    CHECK(reads(c, 557, 0, 0, l, 557));
+    CHECK(reads(c, PLAIN_CHUNK, 0, 0, l, 557));
+    CHECK(refuses(c, 556, 9));
+    c[4] = 139;
+    CHECK(refuses(c, PLAIN_CHUNK, 9));
+
+    /* One, with as many services as there is room for; one more; 255. */
+    c[4] = l[4] = 1;
+    c[8] = 183;
+    CHECK(reads(c, 558, 0, 0, l, 9));
+    CHECK(refuses(c, 557, 9));
+    c[8] = 184;
+    CHECK(refuses(c, PLAIN_CHUNK, 9));
+    c[8] = 255;
+    CHECK(refuses(c, PLAIN_CHUNK, 9));
+}
+
 /* ---- The reader against a slow one that goes bit by bit ---- */
 
 struct bits {
@@ -142,6 +206,8 @@ static unsigned get(struct bits *b, unsigned width)
     return v;
 }
 
+static unsigned unknown; /* ensembles of this sort that the last slow_read came to */
+
 static struct plain_read slow_read(const uint8_t *chunk, size_t n, uint8_t *list)
 {
     struct plain_read no = {9, 0, 0, 0}, yes = {0, 0, 0, 0};
@@ -149,6 +215,7 @@ static struct plain_read slow_read(const uint8_t *chunk, size_t n, uint8_t *list
     unsigned h, e, s, ens, k, flags;
     size_t to = 0;
 
+    unknown = 0;
     if (b.n < 16)
         return no;
     if (get(&b, 2) != 0) {
@@ -170,18 +237,30 @@ static struct plain_read slow_read(const uint8_t *chunk, size_t n, uint8_t *list
     b.at += 8 * h;
     list[to++] = (uint8_t)(ens = get(&b, 8));
     for (; ens > 0; ens--) {
-        unsigned count;
+        unsigned id, version, count;
 
         if (b.n - b.at < 8 * (4 + e))
             return no;
+        id = get(&b, 8);
+        get(&b, 3);
+        version = get(&b, 5);
+        if (version != 0) {
+            list[to++] = 0x45;
+            list[to++] = 0x55;
+            list[to++] = (uint8_t)id;
+            list[to++] = (uint8_t)version;
+            unknown++;
+            get(&b, 1 + 1 + 1 + 5);
+            b.at += 8 * e;
+            count = get(&b, 8);
+            for (k = 0; k < 8 * count * (3 + s); k++, b.at++)
+                if (b.at == b.n)
+                    return no;
+            continue;
+        }
         list[to++] = 0x45;
         list[to++] = 0x4E;
-        list[to++] = (uint8_t)get(&b, 8);
-        get(&b, 3);
-        if (get(&b, 5) != 0) {
-            no.number = 11;
-            return no;
-        }
+        list[to++] = (uint8_t)id;
         flags = 4 * get(&b, 1);
         flags += 2 * get(&b, 1);
         flags += get(&b, 1);
@@ -211,7 +290,8 @@ static struct plain_read slow_read(const uint8_t *chunk, size_t n, uint8_t *list
    without stuffing. What is past it is random too. */
 static size_t random_chunk(uint8_t *c)
 {
-    unsigned h = dice(8), e = dice(2) ? dice(8) : 0, s = dice(2) ? dice(8) : 0, ens = dice(6), i;
+    unsigned h = dice(8), e = dice(2) ? dice(8) : 0, s = dice(2) ? dice(8) : 0, i;
+    unsigned ens = dice(20) ? dice(6) : dice(256), share = dice(5); /* of four ensembles, so many unknown */
     size_t at;
 
     for (i = 0; i < PLAIN_CHUNK; i++)
@@ -223,7 +303,8 @@ static size_t random_chunk(uint8_t *c)
     for (; ens > 0; ens--) {
         unsigned count = dice(12);
 
-        c[at + 1] &= 0xE0;
+        if (dice(4) >= share)
+            c[at + 1] &= 0xE0;
         c[at + 3 + e] = (uint8_t)count;
         at += 4 + e;
         if (at + count * (3 + s) + 11 > PLAIN_CHUNK) {
@@ -242,7 +323,7 @@ static size_t random_chunk(uint8_t *c)
 static void reader_model(void)
 {
     uint8_t c[PLAIN_CHUNK], got[PLAIN_LISTING], want[PLAIN_LISTING];
-    unsigned long seen[16] = {0};
+    unsigned long seen[16] = {0}, some = 0, only = 0, cut = 0; /* those with unknown ensembles */
     unsigned round, i;
 
     for (round = 0; round < 60000; round++) {
@@ -259,10 +340,14 @@ static void reader_model(void)
         w = slow_read(c, n, want);
         g = exact_read(c, n, got);
         seen[g.number]++;
+        some += g.number == 0 && unknown > 0 && unknown < want[4];
+        only += g.number == 0 && unknown > 0 && unknown == want[4];
+        cut += g.number == 9 && unknown > 0;
         CHECK(g.number == w.number && g.kind == w.kind && g.minor == w.minor && g.length == w.length);
         CHECK(g.number != 0 || memcmp(got, want, g.length) == 0);
     }
-    CHECK(seen[0] > 1000 && seen[5] > 100 && seen[9] > 1000 && seen[11] > 100);
+    CHECK(seen[0] > 1000 && seen[5] > 100 && seen[9] > 1000);
+    CHECK(some > 1000 && only > 1000 && cut > 1000);
 }
 
 /* ---- The writer ---- */
@@ -325,6 +410,48 @@ static size_t unwrap(const uint8_t *out, size_t segments, int kind, uint8_t *chu
         memcpy(chunk + 35 * i, out + 37 * i + 2, 35);
     }
     return 35 * segments;
+}
+
+static void unknown_writer_tests(void)
+{
+    uint8_t out[PLAIN_OUTPUT], big[2000], c[PLAIN_CHUNK], got[PLAIN_LISTING];
+    unsigned long refused = 0, written = 0;
+    unsigned round, i;
+    size_t n;
+
+    for (n = 0; n <= LEN(list_unknown); n++)
+        CHECK(exact_write(list_unknown, n, 1, out).number == 13);
+
+    /* Put in before the good ensemble and after it, counted and not. */
+    for (i = 0; i < 4; i++) {
+        n = i % 2 ? 5 : LEN(list1);
+        memcpy(big, list1, n);
+        memcpy(big + n, "EU\6\1", 4);
+        memcpy(big + n + 4, list1 + n, LEN(list1) - n);
+        big[4] = i < 2 ? 2 : 1;
+        CHECK(exact_write(big, LEN(list1) + 4, 1, out).number == 13);
+    }
+    /* 13 comes before 14: the last of 255 is unknown. */
+    n = make_listing(big, 255, 0);
+    memcpy(big + n - 6, "EU\6\1", 4);
+    CHECK(exact_write(big, n - 2, 1, out).number == 13);
+    memcpy(big + n - 6, "EN\6\1\1\0", 6);
+    CHECK(exact_write(big, n, 1, out).number == 14);
+
+    /* What the reader lists is refused exactly if an ensemble is unknown. */
+    for (round = 0; round < 5000; round++) {
+        struct plain_read r;
+        struct plain_write w;
+
+        n = random_chunk(c);
+        slow_read(c, n, got);
+        r = exact_read(c, n, got);
+        w = exact_write(got, r.length, (int)dice(2), out);
+        CHECK(r.number == 0 && w.number == (unknown > 0 ? 13 : 0));
+        refused += w.number == 13;
+        written += w.number == 0;
+    }
+    CHECK(refused > 1000 && written > 1000);
 }
 
 static void writer_tests(void)
@@ -568,7 +695,7 @@ static void desk_tests(void)
 
     /* Chunks refused on completion: held, complete, no listing changes. */
     for (k = 0; k < 5; k++) {
-        static const int numbers[] = {5, 9, 9, 11, 10};
+        static const int numbers[] = {5, 9, 9, 9, 10};
 
         for (kind = 0; kind < 2; kind++) {
             rig_fresh(&g);
@@ -583,10 +710,10 @@ static void desk_tests(void)
             if (k == 1)
                 for (i = 0; i < 7; i++)
                     memcpy(seg + 7 + 4 * i, "\1\0\0\0", 4);
-            if (k == 2)
+            if (k == 2 || k == 3)
                 seg[10] = 0xFF;
             if (k == 3)
-                seg[8] = 0xE1;
+                seg[8] = 0xE1; /* of an unknown ensemble too */
             if (k == 4) {
                 seg[3] ^= 1;
                 seg[12] ^= 1; /* and another service, which must not show */
@@ -608,8 +735,20 @@ static void desk_tests(void)
     rig_fresh(&g);
     sample_segment(seg, 0x30, 0x00);
     seg[3] = 0x03;
+    seg[10] = 0xFF;
+    CHECK(is_refusal(give(&g, seg), 9));
+
+    /* An unknown ensemble is listed, and that list carried on. */
+    rig_fresh(&g);
+    sample_segment(seg, 0x30, 0x00);
     seg[8] = 0xE1;
-    CHECK(is_refusal(give(&g, seg), 11));
+    CHECK(is_list(give(&g, seg), 0, 9));
+    CHECK(shows(&g, 0, list_unknown, 9) && all(g.second + 9, 1292 - 9, 0x5A) && all(g.first, 1292, 0xA5));
+    plain_frame(&g.desk);
+    CHECK(shows(&g, 1, list_unknown, 9) && shows(&g, 0, NULL, 0));
+    seg[3] ^= 1;
+    CHECK(is_refusal(give(&g, seg), 10));
+    CHECK(shows(&g, 1, list_unknown, 9) && shows(&g, 0, NULL, 0));
 
     /* 16 segments, from the last to the first, each given twice. */
     rig_fresh(&g);
@@ -787,7 +926,7 @@ static struct plain_answer model_segment(struct model *m, const uint8_t *seg)
 static void model_tests(void)
 {
     static uint8_t pool[8][16][37];
-    unsigned long seen[16] = {0}, lists = 0;
+    unsigned long seen[16] = {0}, lists = 0, lists_unknown = 0;
     struct rig g;
     struct model m;
     uint8_t c[PLAIN_CHUNK], seg[37];
@@ -840,6 +979,7 @@ static void model_tests(void)
                   && a.missing == w.missing && a.length == w.length);
             seen[a.number]++;
             lists += a.listed != 0;
+            lists_unknown += a.listed != 0 && unknown > 0;
         }
         for (k = 0; k < 2; k++) {
             const struct plain_slot *s = &g.desk.slot[k];
@@ -855,8 +995,8 @@ static void model_tests(void)
             }
         }
     }
-    CHECK(lists > 1000 && seen[0] > 10000 && seen[3] > 100 && seen[4] > 100 && seen[5] > 100 && seen[6] > 100
-          && seen[7] > 1000 && seen[9] > 20 && seen[10] > 20 && seen[11] > 20);
+    CHECK(lists > 1000 && lists_unknown > 1000 && seen[0] > 10000 && seen[3] > 100 && seen[4] > 100 && seen[5] > 100
+          && seen[6] > 100 && seen[7] > 1000 && seen[9] > 20 && seen[10] > 20);
 }
 
 /* ---- The log program ---- */
@@ -985,7 +1125,19 @@ static void log_tests(void)
     expect_log();
     CHECK(want_n == sizeof sample - 1 && memcmp(want, sample, want_n) == 0);
 
-    /* Every cut of it, and an unknown mark at its end. */
+    /* A list with an unknown ensemble. */
+    whole = log_n;
+    seg[8] = 0xE1;
+    add("SG", 2);
+    add(seg, 37);
+    want_n = 0;
+    expect(sample);
+    want_n -= 6;
+    expect("SG 0 list next 9\n545301230145550501\nEND 0\n");
+    CHECK(prints(0));
+    log_n = whole;
+
+    /* Every cut of the sample, and an unknown mark at its end. */
     whole = log_n;
     for (log_n = 0; log_n <= whole; log_n++) {
         expect_log();
@@ -1094,7 +1246,9 @@ static void log_tests(void)
 int main(int argc, char **argv)
 {
     reader_samples();
+    unknown_samples();
     reader_model();
+    unknown_writer_tests();
     writer_tests();
     desk_tests();
     malformed_tests();

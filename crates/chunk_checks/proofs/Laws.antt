@@ -4,10 +4,10 @@ use mathlib.Core.List.{List}
 use Prim.Native.Nat.{ℕ, zero, suc, _+_, _-_, _*_, _%_, _≤_, _<_}
 use native.Mathlib.Nat.{mul-le-mul}
 use native.Mathlib.Omega.{arith}
-use borrow.Author.Tests.{lt-ltb, le-ltb, eq-eqb, ne-eqb}
+use borrow.Author.Tests.{lt-ltb, le-ltb}
 use lib.ListN.{length, getD, drop, length-drop}
 use lib.Seq.{getD-drop, drop-drop}
-use Rattle.meaning.specs.declared.Refusal.the-variants.{EndsEarly, OtherVersion}
+use Rattle.meaning.specs.declared.Refusal.the-variants.{EndsEarly}
 use Rattle.meaning.specs.declared.Checked.the-variants.{Fine, Fault}
 use Rattle.meaning.specs.Sizes.{ensembleBytes, serviceBytes}
 use Rattle.meaning.specs.Reading.{ensemblesChecks, versionIn, servicesIn, servicesRoom, inside}
@@ -23,7 +23,7 @@ room-small {n} {s} h k =
 
 module _ (xs : List ℕ) (at e s : ℕ) where
   -- the fields of the ensemble there
-  version-at : versionIn (drop at xs) ≡ getD xs (at + 1) 0 % 32
+  pub version-at : versionIn (drop at xs) ≡ getD xs (at + 1) 0 % 32
   version-at = ap (λ (b : ℕ). b % 32) (getD-drop at xs 1 0)
 
   pub services-at : servicesIn e (drop at xs) ≡ getD xs (at + (3 + e)) 0
@@ -45,20 +45,14 @@ module _ (xs : List ℕ) (at e s : ℕ) where
   short-there zero z h = absurd (omega arith)
   short-there (suc n) z h = simp (length-drop at xs, lt-ltb _ _ h)
 
-  pub other-there : (n : ℕ) → 0 < n → ensembleBytes + e ≤ length xs - at → (getD xs (at + 1) 0 % 32 ≡ 0 → ⊥) → ensemblesChecks e s n (drop at xs) ≡ Fault OtherVersion
+  pub crowded-there : (n : ℕ) → 0 < n → ensembleBytes + e ≤ length xs - at → length xs - (at + (ensembleBytes + e)) < getD xs (at + (3 + e)) 0 * (serviceBytes + s) → ensemblesChecks e s n (drop at xs) ≡ Fault EndsEarly
   unfolding ensemblesChecks
-  other-there zero z h v = absurd (omega arith)
-  other-there (suc n) z h v = simp (length-drop at xs, le-ltb _ _ h, version-at, ne-eqb _ _ v)
+  crowded-there zero z h r = absurd (omega arith)
+  crowded-there (suc n) z h r = simp (drop-drop, length-drop, le-ltb _ _ h, room-at, lt-ltb _ _ r)
 
-  pub crowded-there : (n : ℕ) → 0 < n → ensembleBytes + e ≤ length xs - at → getD xs (at + 1) 0 % 32 ≡ 0 → length xs - (at + (ensembleBytes + e)) < getD xs (at + (3 + e)) 0 * (serviceBytes + s) → ensemblesChecks e s n (drop at xs) ≡ Fault EndsEarly
+  pub next-there : (n : ℕ) → 0 < n → ensembleBytes + e ≤ length xs - at → getD xs (at + (3 + e)) 0 * (serviceBytes + s) ≤ length xs - (at + (ensembleBytes + e)) → ensemblesChecks e s n (drop at xs) ≡ ensemblesChecks e s (n - 1) (drop (at + (ensembleBytes + e) + getD xs (at + (3 + e)) 0 * (serviceBytes + s)) xs)
   unfolding ensemblesChecks
-  crowded-there zero z h v r = absurd (omega arith)
-  crowded-there (suc n) z h v r =
-      simp (drop-drop, length-drop, le-ltb _ _ h, version-at, eq-eqb _ _ v, room-at, lt-ltb _ _ r)
-
-  pub next-there : (n : ℕ) → 0 < n → ensembleBytes + e ≤ length xs - at → getD xs (at + 1) 0 % 32 ≡ 0 → getD xs (at + (3 + e)) 0 * (serviceBytes + s) ≤ length xs - (at + (ensembleBytes + e)) → ensemblesChecks e s n (drop at xs) ≡ ensemblesChecks e s (n - 1) (drop (at + (ensembleBytes + e) + getD xs (at + (3 + e)) 0 * (serviceBytes + s)) xs)
-  unfolding ensemblesChecks
-  next-there zero z h v r = absurd (omega arith)
-  next-there (suc n) z h v r =
+  next-there zero z h r = absurd (omega arith)
+  next-there (suc n) z h r =
       let one : suc n - 1 ≡ n = omega arith in
-      rw one (simp (drop-drop, length-drop, le-ltb _ _ h, version-at, eq-eqb _ _ v, room-at, le-ltb _ _ r))
+      rw one (simp (drop-drop, length-drop, le-ltb _ _ h, room-at, le-ltb _ _ r))

@@ -11,7 +11,7 @@ ghost use lib.ListN.{length, drop};
 ghost use Rattle.meaning.specs.Sizes.{longestChunk};
 ghost use Rattle.meaning.specs.Reading.{checks, ensemblesChecks};
 
-// The checks on count ensembles from a place of the chunk on, their extensions e and s bytes long.
+// The checks on count ensembles from a place of the chunk on, their extensions e and s bytes long. An ensemble of any version has this form.
 fn check_ensembles(chunk: &[u8], from: usize, e: usize, s: usize, count: usize) -> Checked
     requires { ⌜ (from ≤ length (now chunk)) × (length (now chunk) ≤ longestChunk) × (e < 8) × (s < 8) ⌝ }
     ensures { λ r. ⌜ r ≡ ensemblesChecks e s count (drop from (now (chunk .entry))) ⌝ }
@@ -23,14 +23,10 @@ fn check_ensembles(chunk: &[u8], from: usize, e: usize, s: usize, count: usize) 
             // its fields run past the end
             return Checked::Fault(Refusal::EndsEarly);
         }
-        let version = chunk[at + 1] % 32;
         let services = chunk[at + (3 + e)] as usize;
         let inside = at + (ENSEMBLE_BYTES + e);
         let room = services * (SERVICE_BYTES + s);
         let rest = chunk.len() - inside;
-        if version != 0 {
-            return Checked::Fault(Refusal::OtherVersion);
-        }
         if rest < room {
             // its services run past the end
             return Checked::Fault(Refusal::EndsEarly);

@@ -258,10 +258,10 @@ fn clashes() {
         .segment(b"32 01", one);
 }
 
-// ---- chunks that are refused
+// ---- chunks that are refused, and one with an unknown ensemble, that is not
 
 // A gathering with one chunk of one segment, its repeat, and its clash.
-fn refused(bench: Bench, name: &[u8], payload: &[u8]) -> Bench {
+fn tried_alone(bench: Bench, name: &[u8], payload: &[u8]) -> Bench {
     let seg = made(0x32, 0x00, payload);
     bench
         .gathering()
@@ -273,21 +273,34 @@ fn refused(bench: Bench, name: &[u8], payload: &[u8]) -> Bench {
 
 fn chunks() {
     let bench = Bench::new().segment(b"32 00", this(0x32, 0x00));
-    let a = refused(
+    let a = tried_alone(
         bench,
         b"kind differs",
         b"\x00\x02\x01\x23\x01\x05\xE0\x83\x01\x0A\x01\xE6",
     );
-    let b = refused(a, b"early end", b"\x00\x03\x01\x23\x01\x05\xE0\x83\xFF");
-    let c = refused(b, b"version", b"\x00\x03\x01\x23\x01\x05\xE1\x83\x00");
-    let d = refused(c, b"major", b"\x40\x03\x01\x23\x00");
-    let e = refused(
+    let b = tried_alone(a, b"early end", b"\x00\x03\x01\x23\x01\x05\xE0\x83\xFF");
+    let c = tried_alone(
+        b,
+        b"unknown ensemble",
+        b"\x00\x03\x01\x23\x01\x05\xE1\x83\x00",
+    );
+    let d = tried_alone(c, b"major", b"\x40\x03\x01\x23\x00");
+    let e = tried_alone(
         d,
         b"early end, kind differs",
         b"\x00\x02\x01\x23\x01\x05\xE0\x83\xFF",
     );
-    let f = refused(e, b"version, kind differs", b"\x00\x02\x01\x23\x01\x05\xE1");
-    refused(f, b"major, kind differs", b"\xC0\x02\x01\x23\x00").gathering();
+    let f = tried_alone(
+        e,
+        b"unknown ensemble, kind differs",
+        b"\x00\x02\x01\x23\x01\x05\xE1\x83\x00",
+    );
+    let g = tried_alone(
+        f,
+        b"unknown ensemble cut, kind differs",
+        b"\x00\x02\x01\x23\x01\x05\xE1",
+    );
+    tried_alone(g, b"major, kind differs", b"\xC0\x02\x01\x23\x00").gathering();
 }
 
 fn main() {

@@ -42,7 +42,7 @@ abbrev earlyNumbers : List ℕ
 earlyNumbers = 1 ∷ 2 ∷ 3 ∷ 4 ∷ 5 ∷ 6 ∷ 12 ∷ []
 
 abbrev chunkNumbers : List ℕ
-chunkNumbers = 5 ∷ 9 ∷ 10 ∷ 11 ∷ []
+chunkNumbers = 5 ∷ 9 ∷ 10 ∷ []
 
 abbrev otherNumbers : List ℕ
 otherNumbers = 1 ∷ 2 ∷ 3 ∷ 4 ∷ 6 ∷ 12 ∷ []
@@ -134,11 +134,11 @@ module _ (d : Desk) (xs first second : List ℕ) (f : Refusal) where
   own-major : callChecks d xs first second ≡ Fault f → numberOf f ≡ 5 → segmentMajor xs ≡ 0 → ⊥
   own-major e five none = rw five at (given otherNumbers e (other-gives d xs first second none))
 
-  pub refusal-number : segmentAfter d xs first second .answer ≡ Refused f → T (among (1 ∷ 2 ∷ 3 ∷ 4 ∷ 5 ∷ 6 ∷ 7 ∷ 9 ∷ 10 ∷ 11 ∷ 12 ∷ []) (numberOf f))
+  pub refusal-number : segmentAfter d xs first second .answer ≡ Refused f → T (among (1 ∷ 2 ∷ 3 ∷ 4 ∷ 5 ∷ 6 ∷ 7 ∷ 9 ∷ 10 ∷ 12 ∷ []) (numberOf f))
   refusal-number e = go (refusal-leaves d xs first second f e)
     where
       all : List ℕ
-      all = 1 ∷ 2 ∷ 3 ∷ 4 ∷ 5 ∷ 6 ∷ 7 ∷ 9 ∷ 10 ∷ 11 ∷ 12 ∷ []
+      all = 1 ∷ 2 ∷ 3 ∷ 4 ∷ 5 ∷ 6 ∷ 7 ∷ 9 ∷ 10 ∷ 12 ∷ []
 
       go : {r : After} → Leaves f d xs first second r → T (among all (numberOf f))
       go (unchanged c same) = of-each (λ n. T (among all n)) earlyNumbers (numberOf f) (search) (early-number c)
@@ -158,7 +158,7 @@ refusal-changes d xs first second f e = go (refusal-leaves d xs first second f e
         record {
           nothing = λ t. same;
           clash = λ seven. absurd (rw seven at m);
-          chunk = λ t. absurd (apart earlyNumbers (9 ∷ 10 ∷ 11 ∷ []) (search) m t);
+          chunk = λ t. absurd (apart earlyNumbers (9 ∷ 10 ∷ []) (search) m t);
           header = λ five differs. same;
           major = λ five none. absurd (own-major d xs first second f c five none);
         }

@@ -103,7 +103,7 @@ pub data Leaves (f : Refusal) (d : Desk) (xs first second : List ℕ) (r : After
 pub record Changes (n : ℕ) (d : Desk) (xs first second : List ℕ) (r : After) : Type 0 where
   pub nothing : T (among (1 ∷ 2 ∷ 3 ∷ 4 ∷ 6 ∷ 12 ∷ []) n) → Untouched d first second r
   pub clash : n ≡ 7 → Spoils d xs first second r
-  pub chunk : T (among (9 ∷ 10 ∷ 11 ∷ []) n) → Completes d xs first second r
+  pub chunk : T (among (9 ∷ 10 ∷ []) n) → Completes d xs first second r
   -- 5 is the segment's own, or that of the chunk that it completes
   pub header : n ≡ 5 → (segmentMajor xs ≡ 0 → ⊥) → Untouched d first second r
   pub major : n ≡ 5 → segmentMajor xs ≡ 0 → Completes d xs first second r

@@ -11,7 +11,7 @@ use Rattle.octets.specs.Each.{Each}
 use Rattle.octets.specs.Checks.{among}
 use Rattle.meaning.specs.declared.Kind.the-variants.{This}
 use Rattle.meaning.specs.Sizes.{longestListing}
-use Rattle.meaning.specs.Lists.{Service, FicList}
+use Rattle.meaning.specs.Lists.{Service, known, FicList}
 use Rattle.meaning.specs.Layout.{serviceFields, ensembleFields, chunkFields, wire, Carries}
 use Rattle.meaning.specs.Listing.{listing, ensembleListing}
 use Rattle.meaning.specs.Plain.{plain}
@@ -36,7 +36,10 @@ service = record { id = 0x0A01; multi = 0; status = 3; sp = 0 }
 
 list : FicList
 list =
-    record { stream = 0x0123; ensembles = record { id = 5; slt = 1; gat = 0; eat = 0; channel = 3; services = replicate 9 service } ∷ [] }
+    record {
+      stream = 0x0123;
+      ensembles = known (record { id = 5; slt = 1; gat = 0; eat = 0; channel = 3; services = replicate 9 service }) ∷ [];
+    }
 
 chunk : List ℕ
 chunk = wire (plain This list)

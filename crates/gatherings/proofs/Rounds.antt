@@ -12,15 +12,15 @@ use Rattle.meaning.specs.declared.Read.{Read}
 use Rattle.meaning.specs.declared.Read.the-variants.{Listed}
 use Rattle.meaning.specs.Sizes.{longestChunk, longestListing}
 use Rattle.meaning.specs.Numbers.{readValues}
-use Rattle.meaning.specs.Lists.{FicList}
+use Rattle.meaning.specs.Lists.{FicList, AllKnown}
 use Rattle.meaning.specs.Layout.{wire, Carries}
 use Rattle.meaning.specs.Listing.{listing}
 use Rattle.meaning.specs.Said.{listingFits, listSaid}
-use Rattle.meaning.specs.Plain.{plain, Fits, plainLength, Oldest}
+use Rattle.meaning.specs.Plain.{plain, Fits, plainLength, Oldest, VersionsZero}
 use Rattle.meaning.specs.Reading.{ReadSays}
 use Rattle.meaning.proofs.Answers.{carried-says}
-use Rattle.meaning.proofs.Said.{listing-fitting, said-listing, listing-said, said-fitting}
-use Rattle.meaning.proofs.Plain.{length-plain, plain-carried, bytes-carried, carried-fitting, carried-room, oldest-plain}
+use Rattle.meaning.proofs.Said.{listing-fitting, said-listing, listing-said, said-fitting, said-known}
+use Rattle.meaning.proofs.Plain.{length-plain, plain-carried, bytes-carried, carried-fitting, carried-room, carried-known, oldest-plain}
 use Rattle.segments.specs.Segment.{segmentBytes}
 use Rattle.segments.specs.Cut.{segmentCount, Choice, joined}
 use Rattle.writer.specs.declared.Written.the-variants.{Segments}
@@ -64,15 +64,18 @@ module _ (k : Kind) (l : FicList) (fits : Fits l) (room : plainLength l ≤ long
       subst (λ (n : ℕ). let s = state d first second in ComesInOrder k (listing l) (segmentCount n) (d .notes .swapped) first second (ran s (map (wholly s) (plainSegments k l)))) (length-plain k l fits)
       (cut-delivered carried (plainly-suits chunk) d start first second one other)
 
-  -- ---- its listing, written
+  -- ---- its listing, written: no ensemble is unknown
 
-  module _ (output : List ℕ) (space : shortestOutput ≤ length output) where
+  module _ (known : AllKnown l) (output : List ℕ) (space : shortestOutput ≤ length output) where
+    formed : listingFits (listing l) ≡ true
+    formed = listing-fitting l fits known
+
     said : listSaid (listing l) ≡ l
-    said = said-listing l fits
+    said = said-listing l fits formed
 
     written : let s = plainSegments k l in WriteSays (listing l) k output (Segments (length s)) (joined s ++ drop (segmentBytes * length s) output)
     written =
-        let fine = checks-written (listing l) output space (listing-fitting l fits) (subst (λ (m : FicList). plainLength m ≤ longestChunk) (sym said) room) in
+        let fine = checks-written (listing l) output space formed (subst (λ (m : FicList). plainLength m ≤ longestChunk) (sym said) room) in
         subst (λ (m : FicList). let s = plainSegments k m in WriteSays (listing l) k output (Segments (length s)) (joined s ++ drop (segmentBytes * length s) output)) said
         (says-written (listing l) k output fine)
 
@@ -108,24 +111,27 @@ module _ (xs : List ℕ) (k : Kind) (output : List ℕ) (bytes : Bytes xs) (fits
   held : Fits l
   held = said-fitting xs bytes fits
 
+  all-known : AllKnown l
+  all-known = said-known xs
+
   same : listing l ≡ xs
   same = listing-said xs bytes fits
 
   pub written-so-many : writeAnswer xs k output ≡ Segments (segmentCount (plainLength (listSaid xs)))
-  written-so-many = subst (λ (ys : List ℕ). writeAnswer ys k output ≡ Segments n) same (written-count k l held room output space)
+  written-so-many = subst (λ (ys : List ℕ). writeAnswer ys k output ≡ Segments n) same (written-count k l held room all-known output space)
 
   pub read-after-write : (d : Desk) → AtStart d → (first second : List ℕ) → longestListing ≤ length first → longestListing ≤ length second → let n = segmentCount (plainLength (listSaid xs)) in let s = state d first second in ComesInOrder k xs n (d .notes .swapped) first second (ran s (map (wholly s) (firstSegments n (writeOutput xs k output))))
   read-after-write d start first second one other =
       subst (λ (ys : List ℕ). let s = state d first second in ComesInOrder k ys n (d .notes .swapped) first second (ran s (map (wholly s) (firstSegments n (writeOutput ys k output))))) same
-      (subst (λ (x : List (List ℕ)). let s = state d first second in ComesInOrder k (listing l) n (d .notes .swapped) first second (ran s (map (wholly s) x))) (sym (written-segments k l held room output space))
+      (subst (λ (x : List (List ℕ)). let s = state d first second in ComesInOrder k (listing l) n (d .notes .swapped) first second (ran s (map (wholly s) x))) (sym (written-segments k l held room all-known output space))
       (segments-delivered k l held room d start first second one other))
 
   pub read-whole-after-write : (before : List ℕ) → longestListing ≤ length before → ReadSays (payloadsOf (firstSegments (segmentCount (plainLength (listSaid xs))) (writeOutput xs k output))) before (Listed k 0 (length xs)) (xs ++ drop (length xs) before)
   read-whole-after-write before long =
       subst (λ (ys : List ℕ). ReadSays (payloadsOf (firstSegments n (writeOutput ys k output))) before (Listed k 0 (length ys)) (ys ++ drop (length ys) before)) same
-      (payloads-read k l held room output space before long)
+      (payloads-read k l held room all-known output space before long)
 
--- ---- write after read, for a chunk of the oldest edition
+-- ---- write after read, for a chunk of the oldest edition whose ensembles are all of version 0
 
 module _ {ys : List ℕ} {k : Kind} {m : ℕ} {l : FicList} (h : Carries ys k m l) where
   carried-listed : (buffer : List ℕ) → longestListing ≤ length buffer → listedBy ys buffer ≡ listing l
@@ -136,18 +142,23 @@ module _ {ys : List ℕ} {k : Kind} {m : ℕ} {l : FicList} (h : Carries ys k m 
   pub carried-short : plainLength l ≤ longestChunk
   carried-short = omega (arith, carried-room h, h .allowed .room, ap length (h .bytes))
 
-  pub write-after-read : Oldest (h .chunk) → (buffer output : List ℕ) → longestListing ≤ length buffer → shortestOutput ≤ length output → let n = segmentCount (plainLength l) in (writeAnswer (listedBy ys buffer) k output ≡ Segments n) × (take (plainLength l) (payloadsOf (firstSegments n (writeOutput (listedBy ys buffer) k output))) ≡ take (plainLength l) ys) × (ys ≡ take (plainLength l) ys ++ h .chunk .stuffing)
-  write-after-read oldest buffer output long space =
+  -- the same list, sent by the oldest edition
+  pub oldest-carried : Carries (wire (plain k l)) k 0 l
+  oldest-carried = plain-carried k l (carried-fitting h) carried-short
+
+  pub write-after-read : Oldest (h .chunk) → VersionsZero (h .chunk) → (buffer output : List ℕ) → longestListing ≤ length buffer → shortestOutput ≤ length output → let n = segmentCount (plainLength l) in (writeAnswer (listedBy ys buffer) k output ≡ Segments n) × (take (plainLength l) (payloadsOf (firstSegments n (writeOutput (listedBy ys buffer) k output))) ≡ take (plainLength l) ys) × (ys ≡ take (plainLength l) ys ++ h .chunk .stuffing)
+  write-after-read oldest versions buffer output long space =
       let fits = carried-fitting h in
+      let all-known = carried-known h versions in
       let n : ℕ = segmentCount (plainLength l) in
       let w : List ℕ = wire (plain k l) in
       let size = length-plain k l fits in
-      let own : ys ≡ w ++ h .chunk .stuffing = oldest-plain h oldest in
+      let own : ys ≡ w ++ h .chunk .stuffing = oldest-plain h oldest versions in
       let front : take (plainLength l) ys ≡ w = ap (take (plainLength l)) own ∙ take-at w (h .chunk .stuffing) (plainLength l) size in
       let back : take (plainLength l) (payloadsOf (firstSegments n (writeOutput (listing l) k output))) ≡ w =
-      ap (take (plainLength l)) (written-payloads k l fits carried-short output space) ∙ take-at w (plainly (length w) .fill) (plainLength l) size in
+      ap (take (plainLength l)) (written-payloads k l fits carried-short all-known output space) ∙ take-at w (plainly (length w) .fill) (plainLength l) size in
       let listed = sym (carried-listed buffer long) in (
-        subst (λ (xs : List ℕ). writeAnswer xs k output ≡ Segments n) listed (written-count k l fits carried-short output space),
+        subst (λ (xs : List ℕ). writeAnswer xs k output ≡ Segments n) listed (written-count k l fits carried-short all-known output space),
         subst (λ (xs : List ℕ). take (plainLength l) (payloadsOf (firstSegments n (writeOutput xs k output))) ≡ take (plainLength l) ys) listed (back ∙ sym front),
         own ∙ ap (λ (t : List ℕ). t ++ h .chunk .stuffing) (sym front),
       )

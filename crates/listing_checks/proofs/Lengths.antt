@@ -9,7 +9,7 @@ use borrow.Author.Tests.{eq-eqb, ne-eqb}
 use lib.ListN.{length, getD, drop, length-append}
 use Rattle.octets.proofs.Laws.{either}
 use Rattle.meaning.specs.Sizes.{chunkHeaderBytes, ensembleBytes, serviceBytes, tsBytes, enBytes}
-use Rattle.meaning.specs.Lists.{Service, servicesOf}
+use Rattle.meaning.specs.Lists.{Service, ensembleServices, servicesOf}
 use Rattle.meaning.specs.Listing.{markTS}
 use Rattle.meaning.specs.Said.{stands, servicesFit, servicesSaid, enFits, countSaid, afterEN, afterServices, ensemblesFit, ensemblesSaid, listingFits, listSaid}
 use Rattle.meaning.specs.Plain.{plainLength}
@@ -27,7 +27,7 @@ module _ (xs : List ℕ) (at : ℕ) where
       let ys : List ℕ = drop at xs in
       let one : suc n - 1 ≡ n = omega arith in
       let own : List Service = servicesSaid (countSaid ys) (afterEN ys) in
-      let rest : List Service = flatMap (λ e. e .services) (ensemblesSaid n (afterServices ys)) in
+      let rest : List Service = flatMap ensembleServices (ensemblesSaid n (afterServices ys)) in
       rw (one, sym (after-at xs at k is)) (omega (arith, is, length-append own rest, length-servicesSaid (countSaid ys) (afterEN ys)))
 
   no-ensembles : (n : ℕ) → n ≤ 0 → ensemblesLength n (drop at xs) ≡ 0

@@ -4,6 +4,7 @@ use mathlib.Core.List.{List, [], _∷_, _++_, flatMap}
 use Prim.Native.Nat.{ℕ, zero, suc, _+_, _-_, _*_, _/_, _%_, _≤_, _<_}
 use native.Mathlib.Nat.{add-assoc, div-div-eq-div-mul}
 use native.Mathlib.Omega.{arith}
+use borrow.Author.Tests.{eq-eqb, ne-eqb}
 use lib.ListN.{length, getD, drop, set, length-append, length-drop}
 use lib.Seq.{getD-drop, drop-drop, sets}
 use Rattle.octets.proofs.Laws.{getD-there, word-there}
@@ -11,12 +12,12 @@ use Rattle.octets.proofs.Stores.{stores, stored, sets-append}
 use Rattle.octets.specs.Word.{word, high, low}
 use Rattle.meaning.specs.declared.Checked.the-variants.{Fine}
 use Rattle.meaning.specs.Sizes.{ensembleBytes, serviceBytes, tsBytes, enBytes, svBytes}
-use Rattle.meaning.specs.Lists.{Service}
-use Rattle.meaning.specs.Listing.{svRecord, tsRecord, enRecord, ensembleListing, listing}
-use Rattle.meaning.specs.Reading.{ensemblesChecks, servicesIn, servicesRoom, inside, past, serviceAt, servicesAt, ensembleAt, ensemblesAt, eIn, sIn, streamIn, countIn, afterHeader, listIn}
+use Rattle.meaning.specs.Lists.{Service, known}
+use Rattle.meaning.specs.Listing.{svRecord, tsRecord, enRecord, euRecord, ensembleListing, listing}
+use Rattle.meaning.specs.Reading.{ensemblesChecks, servicesIn, servicesRoom, inside, past, serviceAt, servicesAt, knownAt, unknownAt, ensembleAt, ensemblesAt, eIn, sIn, streamIn, countIn, afterHeader, listIn}
 use Rattle.meaning.proofs.Checks.{ensemble-passes}
 use Rattle.meaning.proofs.Lengths.{length-servicesAt, length-ensemblesAt, length-records}
-use Rattle.chunk_checks.proofs.Laws.{services-at, inside-at}
+use Rattle.chunk_checks.proofs.Laws.{version-at, services-at, inside-at}
 
 -- ---- the records, as the code stores their bytes
 
@@ -30,9 +31,15 @@ service-stored xs l at to w hi lo e p q =
     stored 0x53 (0x56 ∷ hi ∷ lo ∷ t / 8 % 4 ∷ t / 2 % 4 ∷ t % 2 ∷ []) l to
     ∙ (λ i. sets l to (0x53 ∷ 0x56 ∷ first i ∷ second i ∷ third i / 8 % 4 ∷ third i / 2 % 4 ∷ third i % 2 ∷ []))
 
-pub ensemble-stored : (xs l m : List ℕ) (at to e s : ℕ) → let third = getD xs (at + 2) 0 in let count = getD xs (at + (3 + e)) 0 in m ≡ sets (stores (set l to 0x45) to 1 (0x4E ∷ getD xs at 0 ∷ third / 32 ∷ third % 32 ∷ count ∷ [])) (to + enBytes) (flatMap svRecord (servicesAt s count (drop (at + (ensembleBytes + e)) xs))) → m ≡ sets l to (ensembleListing (ensembleAt e s (drop at xs)))
+pub unknown-stored : (xs l : List ℕ) (at to : ℕ) → stores (set l to 0x45) to 1 (0x55 ∷ getD xs at 0 ∷ getD xs (at + 1) 0 % 32 ∷ []) ≡ sets l to (euRecord (unknownAt (drop at xs)))
+unknown-stored xs l at to =
+    let id = sym (getD-there xs at) in
+    let version = sym (version-at xs at 0 0) in
+    stored 0x45 (0x55 ∷ getD xs at 0 ∷ getD xs (at + 1) 0 % 32 ∷ []) l to ∙ (λ i. sets l to (0x45 ∷ 0x55 ∷ id i ∷ version i ∷ []))
+
+pub known-stored : (xs l m : List ℕ) (at to e s : ℕ) → let third = getD xs (at + 2) 0 in let count = getD xs (at + (3 + e)) 0 in m ≡ sets (stores (set l to 0x45) to 1 (0x4E ∷ getD xs at 0 ∷ third / 32 ∷ third % 32 ∷ count ∷ [])) (to + enBytes) (flatMap svRecord (servicesAt s count (drop (at + (ensembleBytes + e)) xs))) → m ≡ sets l to (ensembleListing (known (knownAt e s (drop at xs))))
 unfolding ensembleListing
-ensemble-stored xs l m at to e s is =
+known-stored xs l m at to e s is =
     let ys : List ℕ = drop at xs in
     let t : ℕ = getD ys 2 0 in
     let third : getD xs (at + 2) 0 ≡ t = sym (getD-drop at xs 2 0) in
@@ -48,7 +55,23 @@ ensemble-stored xs l m at to e s is =
     ∙ ap (λ (o : List ℕ). sets o (to + enBytes) (flatMap svRecord (servicesAt s (getD xs (at + (3 + e)) 0) (drop (at + (ensembleBytes + e)) xs))))
     (stored 0x45 (0x4E ∷ getD xs at 0 ∷ getD xs (at + 2) 0 / 32 ∷ getD xs (at + 2) 0 % 32 ∷ getD xs (at + (3 + e)) 0 ∷ []) l to)
     ∙ (λ i. sets (sets l to (0x45 ∷ 0x4E ∷ id i ∷ flags i ∷ third i % 32 ∷ count i ∷ [])) (to + enBytes) (flatMap svRecord (servicesAt s (number i) (place i))))
-    ∙ sym (sets-append (enRecord (ensembleAt e s ys)) (flatMap svRecord own) l to)
+    ∙ sym (sets-append (enRecord (knownAt e s ys)) (flatMap svRecord own) l to)
+
+-- a known ensemble's records, by their lengths; and which sort an ensemble is, by the byte that the code looks at
+module _ (xs : List ℕ) (at e s : ℕ) where
+  pub length-known : length (ensembleListing (known (knownAt e s (drop at xs)))) ≡ enBytes + svBytes * servicesIn e (drop at xs)
+  unfolding ensembleListing
+  length-known =
+      let ys : List ℕ = drop at xs in
+      let own : List Service = servicesAt s (servicesIn e ys) (inside e ys) in
+      omega (arith, length-records own, length-servicesAt s (servicesIn e ys) (inside e ys))
+
+  pub known-there : getD xs (at + 1) 0 % 32 ≡ 0 → ensembleListing (ensembleAt e s (drop at xs)) ≡ ensembleListing (known (knownAt e s (drop at xs)))
+  known-there v = simp (eq-eqb _ _ (version-at xs at e s ∙ v)) refl
+
+  pub unknown-there : (getD xs (at + 1) 0 % 32 ≡ 0 → ⊥) → ensembleListing (ensembleAt e s (drop at xs)) ≡ euRecord (unknownAt (drop at xs))
+  unfolding ensembleListing
+  unknown-there v = simp (ne-eqb _ _ (λ z. v (sym (version-at xs at e s) ∙ z))) refl
 
 -- ---- one record after the other
 
@@ -118,23 +141,17 @@ unfolding flatMap ensemblesAt
 ensembles-none xs at e s zero z = refl
 ensembles-none xs at e s (suc n) z = absurd (omega arith)
 
-pub length-ensemble : (xs : List ℕ) (at e s k : ℕ) → k ≡ servicesIn e (drop at xs) → length (ensembleListing (ensembleAt e s (drop at xs))) ≡ enBytes + svBytes * k
-unfolding ensembleListing
-length-ensemble xs at e s k is =
-    let ys : List ℕ = drop at xs in
-    omega (arith, length-records (servicesAt s (servicesIn e ys) (inside e ys)), length-servicesAt s (servicesIn e ys) (inside e ys))
-
-pub length-ensembles : (xs : List ℕ) (at e s n k : ℕ) → 0 < n → k ≡ servicesIn e (drop at xs) → length (flatMap ensembleListing (ensemblesAt e s n (drop at xs))) ≡ enBytes + svBytes * k + length (flatMap ensembleListing (ensemblesAt e s (n - 1) (drop (after at e s k) xs)))
+pub length-ensembles : (xs : List ℕ) (at e s n k : ℕ) → 0 < n → k ≡ servicesIn e (drop at xs) → length (flatMap ensembleListing (ensemblesAt e s n (drop at xs))) ≡ length (ensembleListing (ensembleAt e s (drop at xs))) + length (flatMap ensembleListing (ensemblesAt e s (n - 1) (drop (after at e s k) xs)))
 length-ensembles xs at e s n k some is =
     let one : List ℕ = ensembleListing (ensembleAt e s (drop at xs)) in
     let rest : List ℕ = flatMap ensembleListing (ensemblesAt e s (n - 1) (drop (after at e s k) xs)) in
-    omega (arith, ap length (ensembles-next xs at e s n k some is), length-append one rest, length-ensemble xs at e s k is)
+    ap length (ensembles-next xs at e s n k some is) ∙ length-append one rest
 
-pub ensembles-stored : (xs l m : List ℕ) (at to e s n k : ℕ) → 0 < n → k ≡ servicesIn e (drop at xs) → m ≡ sets l to (ensembleListing (ensembleAt e s (drop at xs))) → sets m (to + (enBytes + svBytes * k)) (flatMap ensembleListing (ensemblesAt e s (n - 1) (drop (after at e s k) xs))) ≡ sets l to (flatMap ensembleListing (ensemblesAt e s n (drop at xs)))
-ensembles-stored xs l m at to e s n k some is stored =
+pub ensembles-stored : (xs l m : List ℕ) (at to e s n k next : ℕ) → 0 < n → k ≡ servicesIn e (drop at xs) → next ≡ to + length (ensembleListing (ensembleAt e s (drop at xs))) → m ≡ sets l to (ensembleListing (ensembleAt e s (drop at xs))) → sets m next (flatMap ensembleListing (ensemblesAt e s (n - 1) (drop (after at e s k) xs))) ≡ sets l to (flatMap ensembleListing (ensemblesAt e s n (drop at xs)))
+ensembles-stored xs l m at to e s n k next some is place stored =
     let one : List ℕ = ensembleListing (ensembleAt e s (drop at xs)) in
     let rest : List ℕ = flatMap ensembleListing (ensemblesAt e s (n - 1) (drop (after at e s k) xs)) in
-    ap₂ (λ (o : List ℕ) (b : ℕ). sets o (to + b) rest) stored (sym (length-ensemble xs at e s k is))
+    ap₂ (λ (o : List ℕ) (b : ℕ). sets o b rest) stored place
     ∙ sym (sets-append one rest l to)
     ∙ ap (sets l to) (sym (ensembles-next xs at e s n k some is))
 

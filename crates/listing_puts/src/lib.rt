@@ -3,6 +3,7 @@ use meaning::CHUNK_HEADER_BYTES;
 use meaning::Checked;
 use meaning::EN_BYTES;
 use meaning::ENSEMBLE_BYTES;
+use meaning::EU_BYTES;
 use meaning::SERVICE_BYTES;
 use meaning::SV_BYTES;
 use meaning::TS_BYTES;
@@ -11,9 +12,10 @@ ghost use mathlib.Core.List.{flatMap};
 ghost use Prim.Native.Nat.{_+_, _*_, _≤_, _<_};
 ghost use lib.ListN.{length, drop};
 ghost use lib.Seq.{sets};
-ghost use Rattle.meaning.specs.Sizes.{longestChunk, longestListing, ensembleBytes, serviceBytes, enBytes, svBytes};
-ghost use Rattle.meaning.specs.Listing.{svRecord, ensembleListing, listing};
-ghost use Rattle.meaning.specs.Reading.{checks, ensemblesChecks, serviceAt, servicesAt, ensembleAt, ensemblesAt, servicesIn, servicesRoom, listIn};
+ghost use Rattle.meaning.specs.Sizes.{longestChunk, longestListing, ensembleBytes, serviceBytes, enBytes, euBytes, svBytes};
+ghost use Rattle.meaning.specs.Lists.{known};
+ghost use Rattle.meaning.specs.Listing.{svRecord, euRecord, ensembleListing, listing};
+ghost use Rattle.meaning.specs.Reading.{checks, ensemblesChecks, serviceAt, servicesAt, knownAt, unknownAt, ensembleAt, ensemblesAt, servicesIn, servicesRoom, listIn};
 
 // The record of the service at a place of the chunk, put at a place of the output.
 fn write_service(chunk: &[u8], at: usize, out: &mut [u8], to: usize)
@@ -47,12 +49,23 @@ fn write_services(chunk: &[u8], from: usize, s: usize, count: usize, out: &mut [
     }
 }
 
-// The record of the ensemble at a place of the chunk, then those of its services; how many services there are.
-fn write_ensemble(chunk: &[u8], at: usize, e: usize, s: usize, out: &mut [u8], to: usize) -> usize
+// The record of the unknown ensemble at a place of the chunk, put at a place of the output.
+fn write_unknown(chunk: &[u8], at: usize, out: &mut [u8], to: usize)
+    requires { ⌜ (at + ensembleBytes ≤ length (now chunk)) × (to + euBytes ≤ length (now out)) ⌝ }
+    ensures { λ _. ⌜ now (out .exit) ≡ sets (now (out .entry)) to (euRecord (unknownAt (drop at (now (chunk .entry))))) ⌝ }
+{
+    out[to] = b'E';
+    out[to + 1] = b'U';
+    out[to + 2] = chunk[at];
+    out[to + 3] = chunk[at + 1] % 32;
+}
+
+// The record of the known ensemble at a place of the chunk, then those of its services; the place after them in the output.
+fn write_known(chunk: &[u8], at: usize, e: usize, s: usize, out: &mut [u8], to: usize) -> usize
     requires { ⌜ at + (ensembleBytes + e) + servicesRoom e s (drop at (now chunk)) ≤ length (now chunk) ⌝ }
-    requires { ⌜ to + enBytes + svBytes * servicesIn e (drop at (now chunk)) ≤ length (now out) ⌝ }
-    ensures { λ r. ⌜ r ≡ servicesIn e (drop at (now (chunk .entry))) ⌝ }
-    ensures { λ _. ⌜ now (out .exit) ≡ sets (now (out .entry)) to (ensembleListing (ensembleAt e s (drop at (now (chunk .entry))))) ⌝ }
+    requires { ⌜ to + (enBytes + svBytes * servicesIn e (drop at (now chunk))) ≤ length (now out) ⌝ }
+    ensures { λ r. ⌜ r ≡ to + (enBytes + svBytes * servicesIn e (drop at (now (chunk .entry)))) ⌝ }
+    ensures { λ _. ⌜ now (out .exit) ≡ sets (now (out .entry)) to (ensembleListing (known (knownAt e s (drop at (now (chunk .entry)))))) ⌝ }
 {
     let third = chunk[at + 2];
     let services = chunk[at + (3 + e)];
@@ -71,7 +84,21 @@ fn write_ensemble(chunk: &[u8], at: usize, e: usize, s: usize, out: &mut [u8], t
         out,
         to + EN_BYTES,
     );
-    count
+    to + (EN_BYTES + SV_BYTES * count)
+}
+
+// The records of the ensemble at a place of the chunk, of either sort; the place after them in the output.
+fn write_ensemble(chunk: &[u8], at: usize, e: usize, s: usize, out: &mut [u8], to: usize) -> usize
+    requires { ⌜ at + (ensembleBytes + e) + servicesRoom e s (drop at (now chunk)) ≤ length (now chunk) ⌝ }
+    requires { ⌜ to + length (ensembleListing (ensembleAt e s (drop at (now chunk)))) ≤ length (now out) ⌝ }
+    ensures { λ r. ⌜ r ≡ to + length (ensembleListing (ensembleAt e s (drop at (now (chunk .entry))))) ⌝ }
+    ensures { λ _. ⌜ now (out .exit) ≡ sets (now (out .entry)) to (ensembleListing (ensembleAt e s (drop at (now (chunk .entry))))) ⌝ }
+{
+    if chunk[at + 1] % 32 == 0 {
+        return write_known(chunk, at, e, s, out, to);
+    }
+    write_unknown(chunk, at, out, to);
+    to + EU_BYTES
 }
 
 // The records of count ensembles from a place of the chunk on, that the checks passed; the place after them in the output.
@@ -94,9 +121,9 @@ fn write_ensembles(
     let mut to = start;
     let mut left = count;
     while 0 < left {
-        let services = write_ensemble(chunk, at, e, s, out, to);
+        to = write_ensemble(chunk, at, e, s, out, to);
+        let services = chunk[at + (3 + e)] as usize;
         at = at + (ENSEMBLE_BYTES + e) + services * (SERVICE_BYTES + s);
-        to = to + (EN_BYTES + SV_BYTES * services);
         left -= 1;
     }
     to

@@ -108,7 +108,7 @@ carries-once h g =
     (sym (a .kind) ∙ b .kind, sym (a .minor) ∙ b .minor, sym (a .list) ∙ b .list)
 
 -- the dress does not matter: two chunks that carry one list leave the same in a buffer, whatever their minor editions, extensions, reserved
--- bits and stuffing
+-- bits and stuffing, and whatever they say inside an unknown ensemble
 pub dress-disregarded : {xs ys : List ℕ} {k : Kind} {m n : ℕ} {l : FicList} → Carries xs k m l → Carries ys k n l → (before : List ℕ) → readBuffer xs before ≡ readBuffer ys before
 dress-disregarded {xs} {ys} h g before = go (ltb (length before) longestListing) refl
   where
@@ -122,12 +122,12 @@ dress-disregarded {xs} {ys} h g before = go (ltb (length before) longestListing)
 
 -- ---- the numbers of the reader
 
-read-gives : (xs before : List ℕ) → Gives (1 ∷ 5 ∷ 8 ∷ 9 ∷ 11 ∷ []) (readChecks xs before)
+read-gives : (xs before : List ℕ) → Gives (1 ∷ 5 ∷ 8 ∷ 9 ∷ []) (readChecks xs before)
 unfolding checks
 read-gives xs before = search (gives-check, ensembles-give) depth 8
 
--- a refusal is one of five numbers, with every other value 0, and writes nothing
-pub refusal-values : (xs before : List ℕ) {f : Refusal} → readChecks xs before ≡ Fault f → T (among (1 ∷ 5 ∷ 8 ∷ 9 ∷ 11 ∷ []) (numberOf f)) × (readValues (readAnswer xs before) ≡ record { number = numberOf f; kind = 0; minor = 0; length = 0 }) × (readBuffer xs before ≡ before)
+-- a refusal is one of four numbers, with every other value 0, and writes nothing
+pub refusal-values : (xs before : List ℕ) {f : Refusal} → readChecks xs before ≡ Fault f → T (among (1 ∷ 5 ∷ 8 ∷ 9 ∷ []) (numberOf f)) × (readValues (readAnswer xs before) ≡ record { number = numberOf f; kind = 0; minor = 0; length = 0 }) × (readBuffer xs before ≡ before)
 unfolding readAnswer readBuffer
 refusal-values xs before e = (
   given _ e (read-gives xs before),

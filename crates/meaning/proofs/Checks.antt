@@ -10,11 +10,11 @@ use lib.ListN.{length}
 use Rattle.octets.specs.Checks.{check}
 use Rattle.octets.proofs.Laws.{check-follows}
 use Rattle.meaning.specs.declared.Refusal.{Refusal}
-use Rattle.meaning.specs.declared.Refusal.the-variants.{OtherMajor, TooLong, EndsEarly, OtherVersion}
+use Rattle.meaning.specs.declared.Refusal.the-variants.{OtherMajor, TooLong, EndsEarly}
 use Rattle.meaning.specs.declared.Checked.{Checked}
 use Rattle.meaning.specs.declared.Checked.the-variants.{Fine, Fault}
 use Rattle.meaning.specs.Sizes.{longestChunk, chunkHeaderBytes, ensembleBytes}
-use Rattle.meaning.specs.Reading.{checks, ensemblesChecks, majorIn, hIn, eIn, sIn, countIn, versionIn, servicesRoom, afterHeader, inside, past}
+use Rattle.meaning.specs.Reading.{checks, ensemblesChecks, majorIn, hIn, eIn, sIn, countIn, servicesRoom, afterHeader, inside, past}
 
 fault≢fine : {f : Refusal} → Fault f ≡ Fine → ⊥
 fault≢fine p = let z : _≡_ {A = ℕ} 0 1 = cc in omega arith
@@ -25,26 +25,18 @@ check-passed b f r = check-follows b fault≢fine
 -- the facts that an ensemble at the start of ys passes by
 pub record EnsemblePasses (e s : ℕ) (ys : List ℕ) : Type 0 where
   pub fields : ensembleBytes + e ≤ length ys
-  pub version : versionIn ys ≡ 0
   pub services : servicesRoom e s ys ≤ length (inside e ys)
 
 pub ensemble-passes : (e s n : ℕ) (ys : List ℕ) → ensemblesChecks e s (suc n) ys ≡ Fine → EnsemblePasses e s ys × (ensemblesChecks e s n (past e s ys) ≡ Fine)
 unfolding ensemblesChecks
 ensemble-passes e s n ys p =
     let a = check-passed _ EndsEarly _ p in
-    let b = check-passed _ OtherVersion _ (a .1) in
-    let d = check-passed _ EndsEarly _ (b .1) in (
-      record {
-        fields = ltb-false _ _ (a .0);
-        version = eqb-true _ _ (not-false _ (b .0));
-        services = ltb-false _ _ (d .0);
-      },
-      d .1,
-    )
+    let b = check-passed _ EndsEarly _ (a .1) in
+    (record { fields = ltb-false _ _ (a .0); services = ltb-false _ _ (b .0) }, b .1)
 
 pub ensemble-fine : (e s n : ℕ) (ys : List ℕ) → EnsemblePasses e s ys → ensemblesChecks e s n (past e s ys) ≡ Fine → ensemblesChecks e s (suc n) ys ≡ Fine
 unfolding ensemblesChecks
-ensemble-fine e s n ys h p = simp (le-ltb _ _ (h .fields), eq-eqb _ _ (h .version), le-ltb _ _ (h .services)) p
+ensemble-fine e s n ys h p = simp (le-ltb _ _ (h .fields), le-ltb _ _ (h .services)) p
 
 -- the facts that a chunk passes by, before its ensembles
 pub record HeaderPasses (xs : List ℕ) : Type 0 where

@@ -1,8 +1,10 @@
 -- Every chunk of the layout is accepted, with exactly its list. Assumes nothing.
 use mathlib.Core.Path.{_≡_, refl, sym, ap, ap₂, _∙_, subst}
+use mathlib.Core.Bool.{cond}
 use mathlib.Core.List.{List, [], _∷_, _++_, map, flatMap, append-assoc}
 use Prim.Native.Nat.{ℕ, suc, _+_, _*_, _/_, _%_}
 use native.Mathlib.Omega.{arith}
+use lib.Dec.{eqb}
 use lib.ListN.{length, getD, drop, length-append}
 use lib.Seq.{drop-at, getD-at}
 use Rattle.octets.specs.Bits.{Field, field, InWidth, Held, run}
@@ -12,9 +14,9 @@ use Rattle.octets.proofs.Laws.{each-left, each-right, word-high-low}
 use Rattle.meaning.specs.declared.Kind.{Kind}
 use Rattle.meaning.specs.declared.Checked.the-variants.{Fine}
 use Rattle.meaning.specs.Sizes.{chunkHeaderBytes, ensembleBytes, serviceBytes}
-use Rattle.meaning.specs.Lists.{FicList, kindOf}
-use Rattle.meaning.specs.Layout.{ServiceRow, serviceFields, EnsembleRow, ensembleFields, Chunk, chunkFields, Allowed, serviceOf, ensembleOf, listOf, Carries}
-use Rattle.meaning.specs.Reading.{serviceAt, servicesAt, ensembleAt, ensemblesAt, servicesIn, servicesRoom, inside, past, ensemblesChecks, checks, hIn, eIn, sIn, countIn, afterHeader, listIn, Accepts}
+use Rattle.meaning.specs.Lists.{known, unknown, FicList, kindOf}
+use Rattle.meaning.specs.Layout.{ServiceRow, serviceFields, EnsembleRow, ensembleFields, Chunk, chunkFields, Allowed, serviceOf, knownIn, ensembleOf, listOf, Carries}
+use Rattle.meaning.specs.Reading.{serviceAt, servicesAt, knownAt, ensembleAt, ensemblesAt, servicesIn, servicesRoom, inside, past, ensemblesChecks, checks, hIn, eIn, sIn, countIn, afterHeader, listIn, Accepts}
 use Rattle.meaning.proofs.Checks.{EnsemblePasses, ensemble-fine, HeaderPasses, header-fine}
 use Rattle.meaning.proofs.Rows.{serviceRow, serviceThird, ensembleRow, ensembleSecond, ensembleThird, chunkFirst, chunkSecond, chunkRow, wire-row}
 
@@ -93,18 +95,17 @@ module _ (e s : ℕ) (x : EnsembleRow) (w : Widened e s x) (rest : List ℕ) whe
   past-row : past e s (ensembleRow x ++ rest) ≡ rest
   past-row = ap₂ drop room-row inside-row ∙ drop-at row rest (length row) refl
 
-  ensemble-passes-row : Held (ensembleFields x) → x .version ≡ 0 → EnsemblePasses e s (ensembleRow x ++ rest)
-  unfolding ensembleFields ensembleRow front
-  ensemble-passes-row h v =
+  ensemble-passes-row : EnsemblePasses e s (ensembleRow x ++ rest)
+  unfolding ensembleRow front
+  ensemble-passes-row =
       record {
         fields = omega (arith, w .0, ap length row-split, length-append (x .extension) (length (x .services) ∷ (row ++ rest)));
-        version = omega arith;
         services = omega (arith, room-row, ap length inside-row, length-append row rest);
       }
 
-  ensemble-read : Held (ensembleFields x) → ensembleAt e s (ensembleRow x ++ rest) ≡ ensembleOf x
+  known-read : Held (ensembleFields x) → knownAt e s (ensembleRow x ++ rest) ≡ knownIn x
   unfolding ensembleFields ensembleRow row
-  ensemble-read h =
+  known-read h =
       let ys : List ℕ = ensembleRow x ++ rest in
       let slt : ensembleThird x / 128 ≡ x .slt = omega arith in
       let gat : ensembleThird x / 64 % 2 ≡ x .gat = omega arith in
@@ -113,6 +114,12 @@ module _ (e s : ℕ) (x : EnsembleRow) (w : Widened e s x) (rest : List ℕ) whe
       let services : servicesAt s (servicesIn e ys) (inside e ys) ≡ map serviceOf (x .services) =
       ap₂ (servicesAt s) services-counted inside-row ∙ services-read s (x .services) rest (services-held x h .1) (w .1) in
       λ i. record { id = x .id; slt = slt i; gat = gat i; eat = eat i; channel = channel i; services = services i }
+
+  ensemble-read : Held (ensembleFields x) → ensembleAt e s (ensembleRow x ++ rest) ≡ ensembleOf x
+  unfolding ensembleFields ensembleRow
+  ensemble-read h =
+      let version : ensembleSecond x % 32 ≡ x .version = omega arith in
+      λ i. cond (eqb (version i) 0) (known (known-read h i)) (unknown (record { id = x .id; version = version i }))
 
 -- the ensembles' rows, one after the other
 module _ (e s : ℕ) where
@@ -126,16 +133,14 @@ module _ (e s : ℕ) where
       (ap (ensemblesAt e s (length xs)) (past-row e s x (w .0) more)
       ∙ ensembles-read xs rest (each-right InWidth (ensembleFields x) (flatMap ensembleFields xs) h) (w .1))
 
-  ensembles-fine : (xs : List EnsembleRow) (rest : List ℕ) → Held (flatMap ensembleFields xs) → Each (Widened e s) xs → Each (λ x. x .version ≡ 0) xs → ensemblesChecks e s (length xs) (flatMap ensembleRow xs ++ rest) ≡ Fine
+  ensembles-fine : (xs : List EnsembleRow) (rest : List ℕ) → Each (Widened e s) xs → ensemblesChecks e s (length xs) (flatMap ensembleRow xs ++ rest) ≡ Fine
   unfolding flatMap
-  ensembles-fine [] rest h w v = unfold ensemblesChecks in refl
-  ensembles-fine (x ∷ xs) rest h w v =
+  ensembles-fine [] rest w = unfold ensemblesChecks in refl
+  ensembles-fine (x ∷ xs) rest w =
       let more : List ℕ = flatMap ensembleRow xs ++ rest in
       ap (ensemblesChecks e s (suc (length xs))) (append-assoc (ensembleRow x) (flatMap ensembleRow xs) rest)
-      ∙ ensemble-fine e s (length xs) (ensembleRow x ++ more)
-      (ensemble-passes-row e s x (w .0) more (each-left InWidth (ensembleFields x) (flatMap ensembleFields xs) h) (v .0))
-      (ap (ensemblesChecks e s (length xs)) (past-row e s x (w .0) more)
-      ∙ ensembles-fine xs rest (each-right InWidth (ensembleFields x) (flatMap ensembleFields xs) h) (w .1) (v .1))
+      ∙ ensemble-fine e s (length xs) (ensembleRow x ++ more) (ensemble-passes-row e s x (w .0) more)
+      (ap (ensemblesChecks e s (length xs)) (past-row e s x (w .0) more) ∙ ensembles-fine xs rest (w .1))
 
 -- ---- chunks
 
@@ -201,24 +206,24 @@ module _ (c : Chunk) (t : Allowed c) where
         fields = omega (arith, h-read, t .header, length-append (c .extension) (length (c .ensembles) ∷ (flatMap ensembleRow (c .ensembles) ++ c .stuffing)));
       }
 
-  chunk-fine : c .major ≡ 0 → Each (λ x. x .version ≡ 0) (c .ensembles) → checks xs ≡ Fine
+  chunk-fine : c .major ≡ 0 → checks xs ≡ Fine
   unfolding rest
-  chunk-fine m v =
+  chunk-fine m =
       header-fine xs (chunk-passes m)
       ((λ i. ensemblesChecks (e-read i) (s-read i) (count-read i) (afterHeader-read i))
-      ∙ ensembles-fine (c .e) (c .s) (c .ensembles) (c .stuffing) (ensembles-held .1) (t .loops) v)
+      ∙ ensembles-fine (c .e) (c .s) (c .ensembles) (c .stuffing) (t .loops))
 
-  chunk-accepts : c .major ≡ 0 → Each (λ x. x .version ≡ 0) (c .ensembles) → Accepts xs (kindOf (c .current)) (c .minor) (listOf c)
+  chunk-accepts : c .major ≡ 0 → Accepts xs (kindOf (c .current)) (c .minor) (listOf c)
   unfolding chunkRow chunkFields
-  chunk-accepts m v =
+  chunk-accepts m =
       let held = t .held in
       let current : getD xs 1 0 % 2 ≡ c .current = omega arith in
-      record { passes = chunk-fine m v; kind = ap kindOf current; minor = omega arith; list = list-read }
+      record { passes = chunk-fine m; kind = ap kindOf current; minor = omega arith; list = list-read }
 
 -- what the layout carries, the reader accepts
 pub carried-accepted : {xs : List ℕ} {k : Kind} {m : ℕ} {l : FicList} → Carries xs k m l → Accepts xs k m l
 carried-accepted {xs} {k} {m} {l} h =
     let c = h .chunk in
-    let a = chunk-accepts c (h .allowed) (h .major) (h .versions) in
+    let a = chunk-accepts c (h .allowed) (h .major) in
     subst (λ (t : List ℕ). Accepts t k m l) (sym (wire-row c (h .allowed .held)) ∙ h .bytes)
     (record { passes = a .passes; kind = a .kind ∙ h .kind; minor = a .minor ∙ h .minor; list = a .list ∙ h .list })

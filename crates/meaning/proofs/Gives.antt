@@ -7,7 +7,7 @@ use lib.Dec.{T, eqb, lit<}
 use Rattle.octets.specs.Checks.{check, among}
 use Rattle.octets.proofs.Laws.{either}
 use Rattle.meaning.specs.declared.Refusal.{Refusal}
-use Rattle.meaning.specs.declared.Refusal.the-variants.{ShortBuffer, SegmentLength, SegmentType, ErrorBit, OtherMajor, NumberAboveLast, Clash, TooLong, EndsEarly, KindDiffers, OtherVersion, BadDesk}
+use Rattle.meaning.specs.declared.Refusal.the-variants.{ShortBuffer, SegmentLength, SegmentType, ErrorBit, OtherMajor, NumberAboveLast, Clash, TooLong, EndsEarly, KindDiffers, BadDesk}
 use Rattle.meaning.specs.declared.Checked.{Checked}
 use Rattle.meaning.specs.declared.Checked.the-variants.{Fine, Fault}
 use Rattle.meaning.specs.Numbers.{numberOf, checkedNumber}
@@ -37,10 +37,10 @@ module _ (ns : List ℕ) where
   gives-number Fine g = tt
   gives-number (Fault f) g = either (eqb (numberOf f) 0) (λ q. simp q tt) (λ q. simp q g)
 
-  pub ensembles-give : T (among ns (numberOf EndsEarly)) → T (among ns (numberOf OtherVersion)) → (e s n : ℕ) (ys : List ℕ) → Gives ns (ensemblesChecks e s n ys)
+  pub ensembles-give : T (among ns (numberOf EndsEarly)) → (e s n : ℕ) (ys : List ℕ) → Gives ns (ensemblesChecks e s n ys)
   unfolding ensemblesChecks
-  ensembles-give early version e s zero ys = gives-fine
-  ensembles-give early version e s (suc n) ys = search (gives-check, early, version, ensembles-give early version e s n (past e s ys))
+  ensembles-give early e s zero ys = gives-fine
+  ensembles-give early e s (suc n) ys = search (gives-check, early, ensembles-give early e s n (past e s ys))
 
 -- every number fits a byte
 pub numberOf-small : (f : Refusal) → numberOf f < 0x100
@@ -54,5 +54,4 @@ numberOf-small Clash = lit< tt
 numberOf-small TooLong = lit< tt
 numberOf-small EndsEarly = lit< tt
 numberOf-small KindDiffers = lit< tt
-numberOf-small OtherVersion = lit< tt
 numberOf-small BadDesk = lit< tt

@@ -5,13 +5,15 @@ use mathlib.Core.List.{List, [], _∷_, flatMap}
 use Prim.Native.Nat.{ℕ, zero, suc, _+_, _*_, _≤_}
 use native.Mathlib.Nat.{mul-le-mul-left, eq-zero-or-pos, le-add-right}
 use native.Mathlib.Omega.{arith}
+use lib.Dec.{eqb}
 use lib.ListN.{length, length-append, length-drop}
+use Rattle.octets.proofs.Laws.{either}
 use Rattle.meaning.specs.declared.Checked.the-variants.{Fine}
-use Rattle.meaning.specs.Sizes.{chunkHeaderBytes, ensembleBytes, serviceBytes, tsBytes, enBytes, svBytes, longestChunk, longestListing}
-use Rattle.meaning.specs.Lists.{Service, Ensemble, FicList, servicesOf}
+use Rattle.meaning.specs.Sizes.{chunkHeaderBytes, ensembleBytes, serviceBytes, tsBytes, enBytes, euBytes, svBytes, longestChunk, longestListing}
+use Rattle.meaning.specs.Lists.{Service, Ensemble, known, unknown, ensembleServices, FicList, servicesOf, knownCount, unknownCount}
 use Rattle.meaning.specs.Listing.{svRecord, ensembleListing, listing}
 use Rattle.meaning.specs.Plain.{plainLength}
-use Rattle.meaning.specs.Reading.{servicesAt, ensemblesAt, ensemblesChecks, checks, servicesIn, servicesRoom, inside, past, eIn, sIn, hIn, countIn, afterHeader, listIn}
+use Rattle.meaning.specs.Reading.{servicesAt, ensembleAt, ensemblesAt, ensemblesChecks, checks, versionIn, servicesIn, servicesRoom, inside, past, eIn, sIn, hIn, countIn, afterHeader, listIn}
 use Rattle.meaning.proofs.Checks.{ensemble-passes, header-passes}
 
 -- ---- from the counts
@@ -21,21 +23,28 @@ unfolding flatMap
 length-records [] = refl
 length-records (v ∷ vs) = omega (arith, length-append (svRecord v) (flatMap svRecord vs), length-records vs)
 
-length-ensembles : (es : List Ensemble) → length (flatMap ensembleListing es) ≡ enBytes * length es + svBytes * length (flatMap (λ e. e .services) es)
-unfolding flatMap ensembleListing
+length-ensembles : (es : List Ensemble) → length (flatMap ensembleListing es) ≡ enBytes * knownCount es + euBytes * unknownCount es + svBytes * length (flatMap ensembleServices es)
+unfolding flatMap knownCount unknownCount ensembleListing
 length-ensembles [] = refl
-length-ensembles (e ∷ es) =
+length-ensembles (known e ∷ es) =
     omega (
       arith,
-      length-append (ensembleListing e) (flatMap ensembleListing es),
-      length-append (e .services) (flatMap (λ x. x .services) es),
+      length-append (flatMap svRecord (e .services)) (flatMap ensembleListing es),
+      length-append (e .services) (flatMap ensembleServices es),
       length-records (e .services),
       length-ensembles es,
     )
+length-ensembles (unknown u ∷ es) = omega (arith, length-ensembles es)
 
-pub length-listing : (l : FicList) → length (listing l) ≡ tsBytes + enBytes * length (l .ensembles) + svBytes * length (servicesOf l)
+pub length-listing : (l : FicList) → length (listing l) ≡ tsBytes + enBytes * knownCount (l .ensembles) + euBytes * unknownCount (l .ensembles) + svBytes * length (servicesOf l)
 unfolding listing servicesOf
 length-listing l = omega (arith, length-ensembles (l .ensembles))
+
+both-counted : (es : List Ensemble) → knownCount es + unknownCount es ≡ length es
+unfolding knownCount unknownCount
+both-counted [] = refl
+both-counted (known e ∷ es) = omega (arith, both-counted es)
+both-counted (unknown u ∷ es) = omega (arith, both-counted es)
 
 -- ---- at the most
 
@@ -49,21 +58,28 @@ unfolding ensemblesAt
 length-ensemblesAt e s zero ys = refl
 length-ensemblesAt e s (suc n) ys = ap suc (length-ensemblesAt e s n _)
 
+-- of the services that an ensemble counts, all are listed or none
+services-most : (e s : ℕ) (ys : List ℕ) → length (ensembleServices (ensembleAt e s ys)) ≤ servicesIn e ys
+services-most e s ys =
+    either (eqb (versionIn ys) 0)
+    (λ q. simp q (omega (arith, length-servicesAt s (servicesIn e ys) (inside e ys))))
+    (λ q. simp q (omega arith))
+
 -- each ensemble and each service has taken its bytes of the chunk
-ensembles-room : (e s n : ℕ) (ys : List ℕ) → ensemblesChecks e s n ys ≡ Fine → ensembleBytes * n + serviceBytes * length (flatMap (λ x. x .services) (ensemblesAt e s n ys)) ≤ length ys
+ensembles-room : (e s n : ℕ) (ys : List ℕ) → ensemblesChecks e s n ys ≡ Fine → ensembleBytes * n + serviceBytes * length (flatMap ensembleServices (ensemblesAt e s n ys)) ≤ length ys
 unfolding flatMap ensemblesAt
 ensembles-room e s zero ys p = omega arith
 ensembles-room e s (suc n) ys p =
     let h = ensemble-passes e s n ys p in
-    let own : List Service = servicesAt s (servicesIn e ys) (inside e ys) in
-    let more : List Service = flatMap (λ x. x .services) (ensemblesAt e s n (past e s ys)) in
+    let own : List Service = ensembleServices (ensembleAt e s ys) in
+    let more : List Service = flatMap ensembleServices (ensemblesAt e s n (past e s ys)) in
     omega (
       arith,
       h .0 .fields,
       h .0 .services,
       ensembles-room e s n (past e s ys) (h .1),
       length-append own more,
-      length-servicesAt s (servicesIn e ys) (inside e ys),
+      services-most e s ys,
       length-drop (ensembleBytes + e) ys,
       length-drop (servicesRoom e s ys) (inside e ys),
       mul-le-mul-left (servicesIn e ys) (le-add-right serviceBytes s),
@@ -90,7 +106,7 @@ counts-fit E S h k =
     (λ some. let both : E + S ≤ 184 = omega arith in omega arith)
     (eq-zero-or-pos E)
 
-services-none : (es : List Ensemble) → length es ≡ 0 → length (flatMap (λ e. e .services) es) ≡ 0
+services-none : (es : List Ensemble) → length es ≡ 0 → length (flatMap ensembleServices es) ≡ 0
 unfolding flatMap
 services-none [] z = refl
 services-none (e ∷ es) z = absurd (omega arith)
@@ -102,6 +118,7 @@ listing-fits xs p =
     omega (
       arith,
       length-listing l,
+      both-counted (l .ensembles),
       counts-fit (length (l .ensembles)) (length (servicesOf l))
           (omega (arith, list-room xs p, header-passes xs p .0 .longest))
           (services-none (l .ensembles)),

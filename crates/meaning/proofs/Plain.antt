@@ -1,19 +1,22 @@
 -- The chunk that the oldest edition sends: it carries its list in the fewest bytes, it may be stuffed, and a chunk of the oldest edition is
 -- that one with its stuffing. Assumes nothing.
 use mathlib.Core.Path.{_≡_, refl, sym, ap, ap₂, _∙_, subst}
+use mathlib.Core.Bool.{true}
 use mathlib.Core.List.{List, [], _∷_, _++_, map, flatMap, append-assoc, map-append}
 use Prim.Native.Nat.{ℕ, zero, suc, _+_, _*_, _≤_, _<_}
 use native.Mathlib.Omega.{arith}
+use borrow.Author.Tests.{eq-eqb, ne-eqb, eqb-false}
+use lib.Dec.{eqb}
 use lib.ListN.{length, length-append, length-map, drop-of-length-le}
 use Rattle.octets.specs.Bits.{Field, InWidth, Held, run, Bytes, bytesOf}
 use Rattle.octets.specs.Each.{Each}
-use Rattle.octets.proofs.Laws.{each-append, each-join, each-left, each-right, each-map, held-rows, bytes-made, makes-run, bytes-bytesOf}
+use Rattle.octets.proofs.Laws.{either, each-append, each-join, each-left, each-right, each-map, held-rows, bytes-made, makes-run, bytes-bytesOf}
 use Rattle.meaning.specs.declared.Kind.{Kind}
 use Rattle.meaning.specs.declared.Kind.the-variants.{This, Next}
 use Rattle.meaning.specs.Sizes.{longestChunk, ensembleBytes, serviceBytes}
-use Rattle.meaning.specs.Lists.{Ensemble, FicList, kindOf, currentOf, servicesOf}
-use Rattle.meaning.specs.Layout.{ServiceRow, serviceFields, EnsembleRow, ensembleFields, Chunk, chunkFields, wire, serviceOf, ensembleOf, listOf, Carries}
-use Rattle.meaning.specs.Plain.{plainService, plainEnsemble, plain, Fits, plainLength, Oldest}
+use Rattle.meaning.specs.Lists.{Service, Ensemble, known, unknown, isKnown, ensembleServices, FicList, kindOf, currentOf, servicesOf, AllKnown}
+use Rattle.meaning.specs.Layout.{ServiceRow, serviceFields, EnsembleRow, ensembleFields, Chunk, chunkFields, wire, serviceOf, knownIn, unknownIn, ensembleOf, listOf, Carries}
+use Rattle.meaning.specs.Plain.{plainService, plainEnsemble, plain, OfItsSort, Fits, plainLength, Oldest, VersionsZero}
 use Rattle.meaning.proofs.Rows.{serviceRow, ensembleRow, chunkRow, chunk-makes, wire-row}
 use Rattle.meaning.proofs.Complete.{Extended, services-length, Widened, services-held, ensembles-held, carried-accepted}
 use Rattle.meaning.proofs.Lengths.{list-room}
@@ -35,19 +38,20 @@ current-bit Next = omega arith
 
 pub plain-held : (k : Kind) (l : FicList) → Fits l → Held (chunkFields (plain k l))
 unfolding chunkFields
-plain-held This l h = h
-plain-held Next l h = each-join InWidth 8 (chunkFields (plain Next l)) (omega arith) (h .1 .1 .1 .1 .1 .1 .1 .1)
+plain-held This l h = h .0
+plain-held Next l h = let held = h .0 in each-join InWidth 8 (chunkFields (plain Next l)) (omega arith) (held .1 .1 .1 .1 .1 .1 .1 .1)
 
 -- ---- how long it is
 
-length-ensembles : (es : List Ensemble) → length (flatMap ensembleRow (map plainEnsemble es)) ≡ ensembleBytes * length es + serviceBytes * length (flatMap (λ e. e .services) es)
+length-ensembles : (es : List Ensemble) → length (flatMap ensembleRow (map plainEnsemble es)) ≡ ensembleBytes * length es + serviceBytes * length (flatMap ensembleServices es)
 unfolding flatMap ensembleRow
 length-ensembles [] = refl
-length-ensembles (e ∷ es) =
+length-ensembles (unknown u ∷ es) = omega (arith, length-ensembles es)
+length-ensembles (known e ∷ es) =
     omega (
       arith,
       length-append (flatMap serviceRow (map plainService (e .services))) (flatMap ensembleRow (map plainEnsemble es)),
-      length-append (e .services) (flatMap (λ x. x .services) es),
+      length-append (e .services) (flatMap ensembleServices es),
       services-length 0 (map plainService (e .services)) (each-map (Extended 0) plainService (λ v. refl) (e .services)),
       length-map (e .services) plainService,
       length-ensembles es,
@@ -61,20 +65,28 @@ length-plain k l h =
 
 -- ---- it carries its list
 
--- a function that undoes another undoes it in a list
-map-undone : {A B : Type 0} (g : B → A) (f : A → B) → ((a : A) → g (f a) ≡ a) → (rs : List A) → map g (map f rs) ≡ rs
-map-undone g f h [] = refl
-map-undone g f h (a ∷ rs) = ap₂ _∷_ (h a) (map-undone g f h rs)
+services-plain : (vs : List Service) → map serviceOf (map plainService vs) ≡ vs
+services-plain [] = refl
+services-plain (v ∷ vs) = ap (λ (t : List Service). v ∷ t) (services-plain vs)
 
-ensemble-plain : (e : Ensemble) → ensembleOf (plainEnsemble e) ≡ e
-ensemble-plain e =
-    let services = map-undone serviceOf plainService (λ v. refl) (e .services) in
-    λ i. record { id = e .id; slt = e .slt; gat = e .gat; eat = e .eat; channel = e .channel; services = services i }
+ensemble-plain : (e : Ensemble) → OfItsSort e → ensembleOf (plainEnsemble e) ≡ e
+ensemble-plain (known e) o =
+    let services = services-plain (e .services) in
+    λ i. known (record { id = e .id; slt = e .slt; gat = e .gat; eat = e .eat; channel = e .channel; services = services i })
+ensemble-plain (unknown u) o = simp (ne-eqb (u .version) 0 o) refl
 
-list-plain : (k : Kind) (l : FicList) → listOf (plain k l) ≡ l
-list-plain k l =
-    let ensembles = map-undone ensembleOf plainEnsemble ensemble-plain (l .ensembles) in
+ensembles-plain : (es : List Ensemble) → Each OfItsSort es → map ensembleOf (map plainEnsemble es) ≡ es
+ensembles-plain [] o = refl
+ensembles-plain (e ∷ es) o = ap₂ _∷_ (ensemble-plain e (o .0)) (ensembles-plain es (o .1))
+
+list-plain : (k : Kind) (l : FicList) → Each OfItsSort (l .ensembles) → listOf (plain k l) ≡ l
+list-plain k l o =
+    let ensembles = ensembles-plain (l .ensembles) o in
     λ i. record { stream = l .stream; ensembles = ensembles i }
+
+plain-widened : (e : Ensemble) → Widened 0 0 (plainEnsemble e)
+plain-widened (known e) = (refl, each-map (Extended 0) plainService (λ v. refl) (e .services))
+plain-widened (unknown u) = (refl, tt)
 
 pub plain-carried : (k : Kind) (l : FicList) → Fits l → plainLength l ≤ longestChunk → Carries (wire (plain k l)) k 0 l
 plain-carried k l h r =
@@ -84,15 +96,14 @@ plain-carried k l h r =
           record {
             held = plain-held k l h;
             header = refl;
-            loops = each-map (Widened 0 0) plainEnsemble (λ e. (refl, each-map (Extended 0) plainService (λ v. refl) (e .services))) (l .ensembles);
+            loops = each-map (Widened 0 0) plainEnsemble plain-widened (l .ensembles);
             room = omega (arith, length-plain k l h);
           };
       bytes = refl;
       major = refl;
-      versions = each-map (λ x. x .version ≡ 0) plainEnsemble (λ e. refl) (l .ensembles);
       kind = kind-current k;
       minor = refl;
-      list = list-plain k l;
+      list = list-plain k l (h .1);
     }
 
 -- ---- what is carried
@@ -114,12 +125,22 @@ service-fits : (v : ServiceRow) → Held (serviceFields v) → Held (serviceFiel
 unfolding serviceFields
 service-fits v h = each-join InWidth 5 (serviceFields (plainService (serviceOf v))) (omega arith) tt
 
-ensemble-fits : (x : EnsembleRow) → Held (ensembleFields x) → Held (ensembleFields (plainEnsemble (ensembleOf x)))
+known-fits : (x : EnsembleRow) → Held (ensembleFields x) → Held (ensembleFields (plainEnsemble (known (knownIn x))))
 unfolding ensembleFields
-ensemble-fits x h =
+known-fits x h =
     let held = services-held x h in
-    each-join InWidth 7 (ensembleFields (plainEnsemble (ensembleOf x))) (omega arith)
+    each-join InWidth 7 (ensembleFields (plainEnsemble (known (knownIn x)))) (omega arith)
     (omega (arith, length-map-map plainService serviceOf (x .services)), held-rows serviceFields plainService serviceOf service-fits (x .services) (held .1))
+
+unknown-fits : (x : EnsembleRow) → Held (ensembleFields x) → Held (ensembleFields (plainEnsemble (unknown (unknownIn x))))
+unfolding ensembleFields flatMap
+unknown-fits x h = omega arith
+
+ensemble-fits : (x : EnsembleRow) → Held (ensembleFields x) → Held (ensembleFields (plainEnsemble (ensembleOf x)))
+ensemble-fits x h = either (eqb (x .version) 0) (λ q. simp q (known-fits x h)) (λ q. simp q (unknown-fits x h))
+
+ensemble-sorted : (x : EnsembleRow) → OfItsSort (ensembleOf x)
+ensemble-sorted x = either (eqb (x .version) 0) (λ q. simp q tt) (λ q. simp q (eqb-false (x .version) 0 q))
 
 pub carried-fitting : {xs : List ℕ} {k : Kind} {m : ℕ} {l : FicList} → Carries xs k m l → Fits l
 unfolding chunkFields
@@ -129,9 +150,11 @@ carried-fitting h =
     let held = ensembles-held c (h .allowed) in
     let rows : List EnsembleRow = map plainEnsemble (map ensembleOf (c .ensembles)) in
     let fits : Held (flatMap ensembleFields rows) = held-rows ensembleFields plainEnsemble ensembleOf ensemble-fits (c .ensembles) (held .1) in
-    subst (λ (t : FicList). Fits t) (h .list)
-    (each-join InWidth 8 (chunkFields (plain This (listOf c))) (omega arith)
-    (omega (arith, length-map-map plainEnsemble ensembleOf (c .ensembles)), each-append InWidth (flatMap ensembleFields rows) [] fits tt))
+    subst (λ (t : FicList). Fits t) (h .list) (
+      each-join InWidth 8 (chunkFields (plain This (listOf c))) (omega arith)
+          (omega (arith, length-map-map plainEnsemble ensembleOf (c .ensembles)), each-append InWidth (flatMap ensembleFields rows) [] fits tt),
+      each-map OfItsSort ensembleOf ensemble-sorted (c .ensembles),
+    )
 
 -- ---- stuffing
 
@@ -179,7 +202,6 @@ stuffed-carried {xs} h fill b r =
           };
       bytes = bytes;
       major = h .major;
-      versions = h .versions;
       kind = h .kind;
       minor = h .minor;
       list = h .list;
@@ -197,12 +219,16 @@ services-oldest s (v ∷ vs) z x r =
     let more = services-oldest s vs z (x .1) (r .1) in
     λ i. record { id = v .id; reserved = r .0 i; multi = v .multi; status = v .status; sp = v .sp; extension = extension i } ∷ more i
 
+version-known : (x : EnsembleRow) → x .version ≡ 0 → ensembleOf x ≡ known (knownIn x)
+version-known x v = simp (eq-eqb (x .version) 0 v) refl
+
 ensembles-oldest : (c : Chunk) (o : Oldest c) (xs : List EnsembleRow) → Each (Widened (c .e) (c .s)) xs → Each (λ x. x .version ≡ 0) xs → Each (λ x. (x .reserved ≡ 7) × Each (λ v. v .reserved ≡ 7) (x .services)) xs → xs ≡ map plainEnsemble (map ensembleOf xs)
 ensembles-oldest c o [] w v r = refl
 ensembles-oldest c o (x ∷ xs) w v r =
     let extension = nil-of-length (c .e) (x .extension) (o .ensemble) (w .0 .0) in
     let services = services-oldest (c .s) (x .services) (o .service) (w .0 .1) (r .0 .1) in
     let more = ensembles-oldest c o xs (w .1) (v .1) (r .1) in
+    let own : x ≡ plainEnsemble (known (knownIn x)) =
     λ i.
     record {
       id = x .id;
@@ -214,18 +240,18 @@ ensembles-oldest c o (x ∷ xs) w v r =
       channel = x .channel;
       extension = extension i;
       services = services i;
-    }
-    ∷ more i
+    } in
+    ap₂ _∷_ (own ∙ ap plainEnsemble (sym (version-known x (v .0)))) more
 
-chunk-oldest : {xs : List ℕ} {k : Kind} {m : ℕ} {l : FicList} (h : Carries xs k m l) → Oldest (h .chunk) → h .chunk ≡ stuffed (plain k l) (h .chunk .stuffing)
+chunk-oldest : {xs : List ℕ} {k : Kind} {m : ℕ} {l : FicList} (h : Carries xs k m l) → Oldest (h .chunk) → VersionsZero (h .chunk) → h .chunk ≡ stuffed (plain k l) (h .chunk .stuffing)
 unfolding chunkFields
-chunk-oldest h o =
+chunk-oldest h o v =
     let c = h .chunk in
     let held = h .allowed .held in
     let current = sym (current-kind (c .current) (omega arith)) ∙ ap currentOf (h .kind) in
     let extension = nil-of-length (c .h) (c .extension) (o .header) (h .allowed .header) in
     let ensembles =
-    ensembles-oldest c o (c .ensembles) (h .allowed .loops) (h .versions) (o .loops)
+    ensembles-oldest c o (c .ensembles) (h .allowed .loops) v (o .loops)
     ∙ ap (λ (t : FicList). map plainEnsemble (t .ensembles)) (h .list) in
     λ i.
     record {
@@ -242,10 +268,25 @@ chunk-oldest h o =
       stuffing = c .stuffing;
     }
 
-pub oldest-plain : {xs : List ℕ} {k : Kind} {m : ℕ} {l : FicList} (h : Carries xs k m l) → Oldest (h .chunk) → xs ≡ wire (plain k l) ++ h .chunk .stuffing
-oldest-plain {k = k} {l = l} h o =
+pub oldest-plain : {xs : List ℕ} {k : Kind} {m : ℕ} {l : FicList} (h : Carries xs k m l) → Oldest (h .chunk) → VersionsZero (h .chunk) → xs ≡ wire (plain k l) ++ h .chunk .stuffing
+oldest-plain {k = k} {l = l} h o v =
     let fill = h .chunk .stuffing in
-    let same = chunk-oldest h o in
+    let same = chunk-oldest h o v in
     sym (h .bytes)
     ∙ ap wire same
     ∙ wire-stuffed (plain k l) fill (subst (λ (fs : List Field). Held fs) (ap chunkFields same ∙ fields-stuffed (plain k l) fill) (h .allowed .held))
+
+-- ---- versions: all 0 in the chunk, all known in its list
+
+each-known : (xs : List EnsembleRow) → Each (λ x. x .version ≡ 0) xs → Each (λ e. isKnown e ≡ true) (map ensembleOf xs)
+each-known [] v = tt
+each-known (x ∷ xs) v = (ap isKnown (version-known x (v .0)), each-known xs (v .1))
+
+pub carried-known : {xs : List ℕ} {k : Kind} {m : ℕ} {l : FicList} (h : Carries xs k m l) → VersionsZero (h .chunk) → AllKnown l
+carried-known h v = subst (λ (t : FicList). AllKnown t) (h .list) (each-known (h .chunk .ensembles) v)
+
+-- what a row says inside, its version not being 0, is no part of the list
+pub inside-disregarded : (x y : EnsembleRow) → (x .version ≡ 0 → ⊥) → x .id ≡ y .id → x .version ≡ y .version → ensembleOf x ≡ ensembleOf y
+inside-disregarded x y other same-id same-version =
+    let rest : (y .version ≡ 0) → ⊥ = λ z. other (same-version ∙ z) in
+    simp (ne-eqb (x .version) 0 other, ne-eqb (y .version) 0 rest) (λ i. unknown (record { id = same-id i; version = same-version i }))

@@ -1,6 +1,7 @@
--- The well formed listings are the listings of the lists whose fields fit, each of one list only. Assumes nothing.
-use mathlib.Core.Path.{_≡_, refl, sym, ap, ap₂, _∙_}
-use mathlib.Core.Bool.{true, and-eq-true-iff}
+-- The listings that are well formed for the writer are those of the lists whose fields fit and whose ensembles are all known; and any listing is
+-- of one list only. Assumes nothing.
+use mathlib.Core.Path.{_≡_, refl, sym, ap, ap₂, _∙_, subst}
+use mathlib.Core.Bool.{true, cond, and-eq-true-iff, false≢true}
 use mathlib.Core.List.{List, [], _∷_, _++_, map, flatMap}
 use Prim.Native.Nat.{ℕ, zero, suc, _+_, _*_, _/_, _%_, _-_, _≤_}
 use native.Mathlib.Nat.{add-zero}
@@ -9,15 +10,17 @@ use borrow.Author.Tests.{leb-true, le-leb, eqb-true}
 use lib.ListN.{length, getD, take, drop, length-map, take-append-drop}
 use lib.Seq.{drop-at, drop-cons, drop-drop}
 use Rattle.octets.specs.Bits.{InWidth, Held, Bytes}
+use Rattle.octets.specs.Each.{Each}
+use Rattle.octets.specs.Word.{word}
 use Rattle.octets.proofs.Laws.{same-eq, each-append, each-join, each-left, each-right, high-word, low-word, word-high-low, bytes-append, bytes-drop, getD-byte}
 use Rattle.meaning.specs.declared.Kind.the-variants.{This}
 use Rattle.records.specs.Records.{markBytes}
-use Rattle.meaning.specs.Sizes.{tsBytes, enBytes, svBytes, mostFlags, mostChannel, mostMulti, mostStatus, mostSP}
-use Rattle.meaning.specs.Lists.{Service, Ensemble, FicList}
+use Rattle.meaning.specs.Sizes.{tsBytes, enBytes, euBytes, svBytes, mostFlags, mostChannel, mostMulti, mostStatus, mostSP}
+use Rattle.meaning.specs.Lists.{Service, Known, Ensemble, known, unknown, isKnown, FicList, AllKnown}
 use Rattle.meaning.specs.Layout.{serviceFields, ensembleFields, chunkFields}
-use Rattle.meaning.specs.Plain.{plainService, plainEnsemble, plain, Fits}
-use Rattle.meaning.specs.Listing.{markTS, markEN, markSV, flags, svRecord, enRecord, tsRecord, ensembleListing, listing}
-use Rattle.meaning.specs.Said.{stands, svFits, serviceSaid, servicesFit, servicesSaid, enFits, countSaid, afterEN, afterServices, ensembleSaid, ensemblesFit, ensemblesSaid, listingFits, listSaid}
+use Rattle.meaning.specs.Plain.{plainService, plainEnsemble, plain, OfItsSort, Fits}
+use Rattle.meaning.specs.Listing.{markTS, markEN, markEU, markSV, flags, svRecord, enRecord, euRecord, tsRecord, ensembleListing, listing}
+use Rattle.meaning.specs.Said.{marked, stands, svFits, serviceSaid, servicesFit, servicesSaid, enFits, countSaid, afterEN, afterServices, ensembleSaid, ensemblesFit, ensemblesSaid, listingFits, listSaid}
 use Rattle.meaning.proofs.Lengths.{length-records}
 use Rattle.meaning.proofs.Counts.{length-servicesSaid, length-ensemblesSaid, leb-and}
 
@@ -55,7 +58,7 @@ abbrev EnsemblesHeld : List Ensemble → Type 0
 EnsemblesHeld es = Held (flatMap ensembleFields (map plainEnsemble es))
 
 -- the fields of an ensemble's services, and of the ensembles after it
-ensembles-held : (e : Ensemble) (es : List Ensemble) → EnsemblesHeld (e ∷ es) → ServicesHeld (e .services) × EnsemblesHeld es
+ensembles-held : (e : Known) (es : List Ensemble) → EnsemblesHeld (known e ∷ es) → ServicesHeld (e .services) × EnsemblesHeld es
 unfolding flatMap ensembleFields
 ensembles-held e es h =
     let own = flatMap serviceFields (map plainService (e .services)) in
@@ -63,37 +66,28 @@ ensembles-held e es h =
     let both = h .1 .1 .1 .1 .1 .1 .1 .1 in
     (each-left InWidth own others both, each-right InWidth own others both)
 
-after-services : (e : Ensemble) (rest : List ℕ) → afterServices (ensembleListing e ++ rest) ≡ rest
+after-services : (e : Known) (rest : List ℕ) → afterServices (ensembleListing (known e) ++ rest) ≡ rest
 unfolding ensembleListing
 after-services e rest = drop-at (flatMap svRecord (e .services)) rest (svBytes * length (e .services)) (length-records (e .services))
 
-ensembles-fit : (es : List Ensemble) → EnsemblesHeld es → ensemblesFit (length es) (flatMap ensembleListing es) ≡ true
+ensembles-fit : (es : List Ensemble) → EnsemblesHeld es → Each (λ e. isKnown e ≡ true) es → ensemblesFit (length es) (flatMap ensembleListing es) ≡ true
 unfolding flatMap ensembleFields ensembleListing ensemblesFit enFits
-ensembles-fit [] h = refl
-ensembles-fit (e ∷ es) h =
+ensembles-fit [] h k = refl
+ensembles-fit (unknown u ∷ es) h k = absurd (false≢true (k .0))
+ensembles-fit (known e ∷ es) h k =
     let held = ensembles-held e es h in
     let more : List ℕ = flatMap ensembleListing es in
-    let room : enBytes ≤ length (ensembleListing e ++ more) = omega arith in
+    let room : enBytes ≤ length (ensembleListing (known e) ++ more) = omega arith in
     let most : (flags e ≤ mostFlags) × (e .channel ≤ mostChannel) = omega arith in
     simp (le-leb _ _ room, le-leb _ _ (most .0), le-leb _ _ (most .1), services-fit (e .services) more (held .0), after-services e more)
-    (ensembles-fit es (held .1))
-
-ensembles-said : (es : List Ensemble) → EnsemblesHeld es → ensemblesSaid (length es) (flatMap ensembleListing es) ≡ es
-unfolding flatMap ensembleFields ensembleListing ensemblesSaid
-ensembles-said [] h = refl
-ensembles-said (e ∷ es) h =
-    let more : List ℕ = flatMap ensembleListing es in
-    let slt : flags e / 4 ≡ e .slt = omega arith in
-    let gat : flags e / 2 % 2 ≡ e .gat = omega arith in
-    let eat : flags e % 2 ≡ e .eat = omega arith in
-    let services = services-said (e .services) more in
-    let rest = ap (ensemblesSaid (length es)) (after-services e more) ∙ ensembles-said es (ensembles-held e es h .1) in
-    λ i. record { id = e .id; slt = slt i; gat = gat i; eat = eat i; channel = e .channel; services = services i } ∷ rest i
+    (ensembles-fit es (held .1) (k .1))
 
 ensembles-bytes : (es : List Ensemble) → EnsemblesHeld es → Bytes (flatMap ensembleListing es)
 unfolding flatMap ensembleFields ensembleListing
 ensembles-bytes [] h = tt
-ensembles-bytes (e ∷ es) h =
+ensembles-bytes (unknown u ∷ es) h =
+    bytes-append (euRecord u) (flatMap ensembleListing es) (omega arith) (ensembles-bytes es (h .1 .1 .1 .1 .1 .1 .1 .1))
+ensembles-bytes (known e ∷ es) h =
     let held = ensembles-held e es h in
     bytes-append (enRecord e) (flatMap svRecord (e .services) ++ flatMap ensembleListing es) (omega (arith, length-map (e .services) plainService))
     (bytes-append (flatMap svRecord (e .services)) (flatMap ensembleListing es) (services-bytes (e .services) (held .0)) (ensembles-bytes es (held .1)))
@@ -102,29 +96,61 @@ ensembles-bytes (e ∷ es) h =
 
 list-held : (l : FicList) → Fits l → EnsemblesHeld (l .ensembles)
 unfolding chunkFields
-list-held l h = each-left InWidth (flatMap ensembleFields (map plainEnsemble (l .ensembles))) [] (h .1 .1 .1 .1 .1 .1 .1 .1 .1)
+list-held l h = each-left InWidth (flatMap ensembleFields (map plainEnsemble (l .ensembles))) [] (h .0 .1 .1 .1 .1 .1 .1 .1 .1 .1)
 
-pub listing-fitting : (l : FicList) → Fits l → listingFits (listing l) ≡ true
+-- the listing of a list without unknown ensembles is well formed for the writer
+pub listing-fitting : (l : FicList) → Fits l → AllKnown l → listingFits (listing l) ≡ true
 unfolding listing listingFits
-listing-fitting l h =
+listing-fitting l h k =
     let room : tsBytes ≤ length (listing l) = omega arith in
-    simp (le-leb _ _ room) (ensembles-fit (l .ensembles) (list-held l h))
-
-pub said-listing : (l : FicList) → Fits l → listSaid (listing l) ≡ l
-unfolding listing listSaid
-said-listing l h =
-    let ensembles = ensembles-said (l .ensembles) (list-held l h) in
-    λ i. record { stream = word-high-low (l .stream) i; ensembles = ensembles i }
+    simp (le-leb _ _ room) (ensembles-fit (l .ensembles) (list-held l h) k)
 
 pub bytes-listing : (l : FicList) → Fits l → Bytes (listing l)
 unfolding chunkFields listing
 bytes-listing l h =
+    let held = h .0 in
     bytes-append (tsRecord l) (flatMap ensembleListing (l .ensembles)) (omega (arith, length-map (l .ensembles) plainEnsemble))
     (ensembles-bytes (l .ensembles) (list-held l h))
 
--- a listing is of one list only
+-- ---- a listing is of one list only: it can be told which, of both sorts of ensembles
+
+known-said : (e : Known) (es : List Ensemble) → EnsemblesHeld (known e ∷ es) → (more : List ℕ) → ensembleSaid (ensembleListing (known e) ++ more) ≡ e
+unfolding flatMap ensembleFields ensembleListing
+known-said e es h more =
+    let slt : flags e / 4 ≡ e .slt = omega arith in
+    let gat : flags e / 2 % 2 ≡ e .gat = omega arith in
+    let eat : flags e % 2 ≡ e .eat = omega arith in
+    let services = services-said (e .services) more in
+    λ i. record { id = e .id; slt = slt i; gat = gat i; eat = eat i; channel = e .channel; services = services i }
+
+-- n ensembles, by their marks
+ensemblesTold : ℕ → List ℕ → List Ensemble
+ensemblesTold zero ys = []
+ensemblesTold (suc n) ys =
+    cond (marked markEU ys)
+    (unknown (record { id = getD ys 2 0; version = getD ys 3 0 }) ∷ ensemblesTold n (drop euBytes ys))
+    (known (ensembleSaid ys) ∷ ensemblesTold n (afterServices ys))
+
+ensembles-told : (es : List Ensemble) → EnsemblesHeld es → ensemblesTold (length es) (flatMap ensembleListing es) ≡ es
+unfolding flatMap ensembleFields ensembleListing ensemblesTold
+ensembles-told [] h = refl
+ensembles-told (unknown u ∷ es) h = ap (λ (t : List Ensemble). unknown u ∷ t) (ensembles-told es (h .1 .1 .1 .1 .1 .1 .1 .1))
+ensembles-told (known e ∷ es) h =
+    let more : List ℕ = flatMap ensembleListing es in
+    ap₂ _∷_ (ap known (known-said e es h more))
+    (ap (ensemblesTold (length es)) (after-services e more) ∙ ensembles-told es (ensembles-held e es h .1))
+
+listTold : List ℕ → FicList
+listTold xs = record { stream = word (getD xs 2 0) (getD xs 3 0); ensembles = ensemblesTold (getD xs 4 0) (drop tsBytes xs) }
+
+list-told : (l : FicList) → Fits l → listTold (listing l) ≡ l
+unfolding listing listTold
+list-told l h =
+    let ensembles = ensembles-told (l .ensembles) (list-held l h) in
+    λ i. record { stream = word-high-low (l .stream) i; ensembles = ensembles i }
+
 pub listing-once : (l m : FicList) → Fits l → Fits m → listing l ≡ listing m → l ≡ m
-listing-once l m f g e = sym (said-listing l f) ∙ ap listSaid e ∙ said-listing m g
+listing-once l m f g e = sym (list-told l f) ∙ ap listTold e ∙ list-told m g
 
 -- ---- a record at the start of a byte string
 
@@ -182,7 +208,7 @@ services-listed (suc n) zs b f =
 
 -- ---- ensembles, said
 
-ensemble-listed : (ys : List ℕ) → Bytes ys → enFits ys ≡ true → servicesFit (countSaid ys) (afterEN ys) ≡ true → (ensembleListing (ensembleSaid ys) ++ afterServices ys ≡ ys) × Held (ensembleFields (plainEnsemble (ensembleSaid ys)))
+ensemble-listed : (ys : List ℕ) → Bytes ys → enFits ys ≡ true → servicesFit (countSaid ys) (afterEN ys) ≡ true → (ensembleListing (known (ensembleSaid ys)) ++ afterServices ys ≡ ys) × Held (ensembleFields (plainEnsemble (known (ensembleSaid ys))))
 unfolding ensembleFields ensembleListing enFits
 ensemble-listed ys b f g =
     let head = and-eq-true-iff (stands markEN enBytes ys) _ .0 f in
@@ -193,7 +219,7 @@ ensemble-listed ys b f g =
     let services = services-listed (countSaid ys) (afterEN ys) (bytes-drop enBytes ys b) g in (
       (λ i. markEN ++ (getD ys 2 0 ∷ sum i ∷ getD ys 4 0 ∷ count i ∷ services .0 i))
           ∙ record-cells markEN ys (enBytes - markBytes) (head .0),
-      each-join InWidth 8 (ensembleFields (plainEnsemble (ensembleSaid ys)))
+      each-join InWidth 8 (ensembleFields (plainEnsemble (known (ensembleSaid ys))))
           (omega (arith, getD-byte ys 2 b, getD-byte ys 5 b, length-map (servicesSaid (countSaid ys) (afterEN ys)) plainService))
           (services .1),
     )
@@ -208,11 +234,26 @@ ensembles-listed (suc n) ys b f =
     let own = ensemble-listed ys b (head .0) (tail .0) in
     let bytes = bytes-drop (svBytes * countSaid ys) (afterEN ys) (bytes-drop enBytes ys b) in
     let more = ensembles-listed n (afterServices ys) bytes (tail .1) in (
-      ap (λ (t : List ℕ). ensembleListing (ensembleSaid ys) ++ t) (more .0) ∙ own .0,
-      each-append InWidth (ensembleFields (plainEnsemble (ensembleSaid ys))) (flatMap ensembleFields (map plainEnsemble (ensemblesSaid n (afterServices ys)))) (own .1) (more .1),
+      ap (λ (t : List ℕ). ensembleListing (known (ensembleSaid ys)) ++ t) (more .0) ∙ own .0,
+      each-append InWidth (ensembleFields (plainEnsemble (known (ensembleSaid ys)))) (flatMap ensembleFields (map plainEnsemble (ensemblesSaid n (afterServices ys)))) (own .1) (more .1),
     )
 
 -- ---- lists, said
+
+ensembles-known : (n : ℕ) (ys : List ℕ) → Each (λ e. isKnown e ≡ true) (ensemblesSaid n ys)
+unfolding ensemblesSaid
+ensembles-known zero ys = tt
+ensembles-known (suc n) ys = (refl, ensembles-known n (afterServices ys))
+
+-- what the writer is told has no unknown ensemble
+pub said-known : (xs : List ℕ) → AllKnown (listSaid xs)
+unfolding listSaid
+said-known xs = ensembles-known (getD xs 4 0) (drop tsBytes xs)
+
+each-sorted : (es : List Ensemble) → Each (λ e. isKnown e ≡ true) es → Each OfItsSort es
+each-sorted [] k = tt
+each-sorted (known e ∷ es) k = (tt, each-sorted es (k .1))
+each-sorted (unknown u ∷ es) k = absurd (false≢true (k .0))
 
 list-listed : (xs : List ℕ) → Bytes xs → listingFits xs ≡ true → (listing (listSaid xs) ≡ xs) × Fits (listSaid xs)
 unfolding chunkFields listing listingFits listSaid
@@ -226,8 +267,11 @@ list-listed xs b f =
     let ensembles = ensembles-listed (getD xs 4 0) (drop tsBytes xs) (bytes-drop tsBytes xs b) (head .1) in (
       (λ i. markTS ++ (first i ∷ second i ∷ count i ∷ ensembles .0 i))
           ∙ record-cells markTS xs (tsBytes - markBytes) (head .0),
-      each-join InWidth 9 (chunkFields (plain This (listSaid xs))) (omega (arith, getD-byte xs 2 b, getD-byte xs 4 b, length-map es plainEnsemble))
-          (each-append InWidth (flatMap ensembleFields (map plainEnsemble es)) [] (ensembles .1) tt),
+      (
+        each-join InWidth 9 (chunkFields (plain This (listSaid xs))) (omega (arith, getD-byte xs 2 b, getD-byte xs 4 b, length-map es plainEnsemble))
+            (each-append InWidth (flatMap ensembleFields (map plainEnsemble es)) [] (ensembles .1) tt),
+        each-sorted es (said-known xs),
+      ),
     )
 
 pub listing-said : (xs : List ℕ) → Bytes xs → listingFits xs ≡ true → listing (listSaid xs) ≡ xs
@@ -235,3 +279,12 @@ listing-said xs b f = list-listed xs b f .0
 
 pub said-fitting : (xs : List ℕ) → Bytes xs → listingFits xs ≡ true → Fits (listSaid xs)
 said-fitting xs b f = list-listed xs b f .1
+
+pub said-listing : (l : FicList) → Fits l → listingFits (listing l) ≡ true → listSaid (listing l) ≡ l
+said-listing l h f =
+    let b = bytes-listing l h in
+    listing-once (listSaid (listing l)) l (said-fitting (listing l) b f) h (listing-said (listing l) b f)
+
+-- and no listing with an unknown ensemble is well formed for the writer
+pub fitting-known : (l : FicList) → Fits l → listingFits (listing l) ≡ true → AllKnown l
+fitting-known l h f = subst (λ (t : FicList). AllKnown t) (said-listing l h f) (said-known (listing l))

@@ -14,7 +14,7 @@ use Rattle.meaning.specs.Numbers.{readValues}
 use native.Mathlib.Omega.{arith}
 use Rattle.octets.specs.Bits.{bits, laid, number, octets, bytesOf}
 use Rattle.meaning.specs.Layout.{Chunk, serviceFields, ensembleFields, chunkFields, wire, Carries}
-use Rattle.meaning.specs.Lists.{FicList}
+use Rattle.meaning.specs.Lists.{known, unknown, FicList}
 use Rattle.meaning.specs.Listing.{ensembleListing, listing}
 use Rattle.meaning.specs.Reading.{checks, ensemblesChecks, servicesAt, ensemblesAt, listIn, readAnswer, readBuffer}
 use Rattle.meaning.proofs.Sound.{accepted-carried}
@@ -53,11 +53,18 @@ refused n xs = record { chunk = xs; number = n; kind = []; minor = 0; listed = [
 firstListing : List ℕ
 firstListing = 0x54 ∷ 0x53 ∷ 0x01 ∷ 0x23 ∷ 0x01 ∷ 0x45 ∷ 0x4E ∷ 0x05 ∷ 0x04 ∷ 0x03 ∷ 0x01 ∷ 0x53 ∷ 0x56 ∷ 0x0A ∷ 0x01 ∷ 0x00 ∷ 0x03 ∷ 0x00 ∷ []
 
+pub unknownListing : List ℕ
+unknownListing = 0x54 ∷ 0x53 ∷ 0x01 ∷ 0x23 ∷ 0x01 ∷ 0x45 ∷ 0x55 ∷ 0x05 ∷ 0x01 ∷ []
+
 pub firstChunk : List ℕ
 firstChunk = 0x00 ∷ 0x03 ∷ 0x01 ∷ 0x23 ∷ 0x01 ∷ 0x05 ∷ 0xE0 ∷ 0x83 ∷ 0x01 ∷ 0x0A ∷ 0x01 ∷ 0xE6 ∷ []
 
 secondChunk : List ℕ
 secondChunk = 0x09 ∷ 0x43 ∷ 0x01 ∷ 0x23 ∷ 0xAA ∷ 0x01 ∷ 0x05 ∷ 0xE0 ∷ 0x83 ∷ 0xBB ∷ 0xCC ∷ 0x01 ∷ 0x0A ∷ 0x01 ∷ 0xE6 ∷ []
+
+-- its ensemble is of version 1
+pub unknownChunk : List ℕ
+unknownChunk = 0x00 ∷ 0x03 ∷ 0x01 ∷ 0x23 ∷ 0x01 ∷ 0x05 ∷ 0xE1 ∷ 0x83 ∷ 0x01 ∷ 0x0A ∷ 0x01 ∷ 0xE6 ∷ []
 
 samples : List Sample
 samples =
@@ -69,12 +76,12 @@ samples =
     ∷ refused 9 (0x40 ∷ [])
     ∷ refused 5 (0x40 ∷ 0x03 ∷ [])
     ∷ refused 9 (0x00 ∷ 0x03 ∷ 0x01 ∷ 0x23 ∷ 0x01 ∷ [])
-    ∷ refused 11 (0x00 ∷ 0x03 ∷ 0x01 ∷ 0x23 ∷ 0x01 ∷ 0x05 ∷ 0xE1 ∷ 0x83 ∷ 0x01 ∷ 0x0A ∷ 0x01 ∷ 0xE6 ∷ [])
+    ∷ accepted 0 unknownListing unknownChunk
     ∷ refused 9 (0x00 ∷ 0x03 ∷ 0x01 ∷ 0x23 ∷ 0x01 ∷ 0x05 ∷ 0xE0 ∷ 0x83 ∷ 0x01 ∷ 0x0A ∷ 0x01 ∷ [])
     ∷ []
 
 samples-hold : map (λ r. given (r .chunk)) samples ≡ samples
-unfolding samples accepted refused firstListing firstChunk secondChunk given kindOfAnswer readAnswer readBuffer checks ensemblesChecks servicesAt ensemblesAt listIn listing ensembleListing flatMap
+unfolding samples accepted refused firstListing unknownListing firstChunk secondChunk unknownChunk given kindOfAnswer readAnswer readBuffer checks ensemblesChecks servicesAt ensemblesAt listIn listing ensembleListing flatMap
 samples-hold = refl
 
 -- the two chunks with an ensemble, from the tables: the same fields in two dresses
@@ -110,18 +117,27 @@ layouts-hold : (wire (sentAs 0 [] []) ≡ firstChunk) × (wire (sentAs 1 (0xAA �
 unfolding sentAs firstChunk secondChunk wire chunkFields ensembleFields serviceFields bytesOf octets number laid bits flatMap
 layouts-hold = (refl, refl)
 
--- the first of them carries its list
+-- the first of them carries its list, and so does that with an unknown ensemble
 pub firstList : FicList
 firstList =
     record {
       stream = 0x0123;
       ensembles =
-          record { id = 5; slt = 1; gat = 0; eat = 0; channel = 3; services = record { id = 0x0A01; multi = 0; status = 3; sp = 0 } ∷ [] } ∷ [];
+          known
+          (record { id = 5; slt = 1; gat = 0; eat = 0; channel = 3; services = record { id = 0x0A01; multi = 0; status = 3; sp = 0 } ∷ [] })
+          ∷ [];
     }
 
 pub first-carried : Carries firstChunk This 0 firstList
 unfolding firstChunk firstList checks ensemblesChecks servicesAt ensemblesAt listIn
 first-carried = accepted-carried (omega arith) (record { passes = refl; kind = refl; minor = refl; list = refl })
+
+pub unknownList : FicList
+unknownList = record { stream = 0x0123; ensembles = unknown (record { id = 5; version = 1 }) ∷ [] }
+
+pub unknown-carried : Carries unknownChunk This 0 unknownList × (listing unknownList ≡ unknownListing)
+unfolding unknownChunk unknownList unknownListing checks ensemblesChecks ensemblesAt listIn listing ensembleListing flatMap
+unknown-carried = (accepted-carried (omega arith) (record { passes = refl; kind = refl; minor = refl; list = refl }), refl)
 
 -- one ensemble with 183 services, 558 bytes
 longestOne : List ℕ

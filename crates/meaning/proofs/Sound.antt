@@ -1,10 +1,12 @@
 -- Every chunk that is accepted is one of the layout, with the list that is read: the rows are read off the bytes, and laid out they are the
 -- bytes again. Assumes nothing.
 use mathlib.Core.Path.{_≡_, refl, sym, ap, ap₂, _∙_}
+use mathlib.Core.Bool.{cond}
 use mathlib.Core.List.{List, [], _∷_, _++_, map, flatMap, append-assoc}
 use Prim.Native.Nat.{ℕ, zero, suc, _+_, _*_, _/_, _%_, _≤_, _<_}
 use native.Mathlib.Nat.{div-div-eq-div-mul}
 use native.Mathlib.Omega.{arith}
+use lib.Dec.{eqb}
 use lib.ListN.{length, getD, take, drop, length-drop, take-append-drop}
 use lib.Seq.{drop-drop, split-at, length-take-le}
 use Rattle.octets.specs.Bits.{field, InWidth, Held, run, Bytes}
@@ -14,9 +16,9 @@ use Rattle.octets.proofs.Laws.{each-append, each-join, high-word, low-word, byt
 use Rattle.meaning.specs.declared.Kind.{Kind}
 use Rattle.meaning.specs.declared.Checked.the-variants.{Fine}
 use Rattle.meaning.specs.Sizes.{chunkHeaderBytes, ensembleBytes, serviceBytes}
-use Rattle.meaning.specs.Lists.{Service, Ensemble, FicList}
+use Rattle.meaning.specs.Lists.{Service, known, unknown, FicList}
 use Rattle.meaning.specs.Layout.{ServiceRow, serviceFields, EnsembleRow, ensembleFields, Chunk, chunkFields, wire, serviceOf, ensembleOf, listOf, Carries}
-use Rattle.meaning.specs.Reading.{serviceAt, servicesAt, ensembleAt, ensemblesAt, servicesIn, servicesRoom, inside, past, ensemblesChecks, majorIn, minorIn, hIn, eIn, sIn, versionIn, streamIn, countIn, afterHeader, listIn, Accepts}
+use Rattle.meaning.specs.Reading.{serviceAt, servicesAt, knownAt, unknownAt, ensembleAt, ensemblesAt, servicesIn, servicesRoom, inside, past, ensemblesChecks, majorIn, minorIn, hIn, eIn, sIn, versionIn, streamIn, countIn, afterHeader, listIn, Accepts}
 use Rattle.meaning.proofs.Checks.{EnsemblePasses, ensemble-passes, HeaderPasses, header-passes}
 use Rattle.meaning.proofs.Rows.{serviceRow, serviceThird, ensembleRow, ensembleSecond, ensembleThird, chunkFirst, chunkSecond, chunkRow, wire-row}
 
@@ -133,16 +135,20 @@ unfolding ensembleRowsAt
 length-ensembles e s zero ys = refl
 length-ensembles e s (suc n) ys = ap suc (length-ensembles e s n (past e s ys))
 
--- an ensemble with other services
-abbrev serving : Ensemble → List Service → Ensemble
-serving x vs = record { id = x .id; slt = x .slt; gat = x .gat; eat = x .eat; channel = x .channel; services = vs }
+ensemble-of : (e s : ℕ) (ys : List ℕ) → ensembleOf (ensembleRowAt e s ys) ≡ ensembleAt e s ys
+unfolding ensembleRowAt
+ensemble-of e s ys =
+    let x = knownAt e s ys in
+    let services = services-of s (servicesIn e ys) (inside e ys) in
+    λ i.
+    cond (eqb (versionIn ys) 0)
+    (known (record { id = x .id; slt = x .slt; gat = x .gat; eat = x .eat; channel = x .channel; services = services i }))
+    (unknown (unknownAt ys))
 
 ensembles-of : (e s n : ℕ) (ys : List ℕ) → map ensembleOf (ensembleRowsAt e s n ys) ≡ ensemblesAt e s n ys
-unfolding ensembleRowsAt ensembleRowAt ensemblesAt
+unfolding ensembleRowsAt ensemblesAt
 ensembles-of e s zero ys = refl
-ensembles-of e s (suc n) ys =
-    ap₂ (λ (vs : List Service) (es : List Ensemble). serving (ensembleAt e s ys) vs ∷ es)
-    (services-of s (servicesIn e ys) (inside e ys)) (ensembles-of e s n (past e s ys))
+ensembles-of e s (suc n) ys = ap₂ _∷_ (ensemble-of e s ys) (ensembles-of e s n (past e s ys))
 
 ensemble-held : (e s : ℕ) (ys : List ℕ) → Bytes ys → Held (ensembleFields (ensembleRowAt e s ys))
 unfolding ensembleFields ensembleRowAt
@@ -186,11 +192,10 @@ record RowsOf (e s n : ℕ) (ys : List ℕ) : Type 0 where
   written : flatMap ensembleRow (ensembleRowsAt e s n ys) ++ after e s n ys ≡ ys
   widened : Each (λ x. (length (x .extension) ≡ e) × Each (λ v. length (v .extension) ≡ s) (x .services)) (ensembleRowsAt e s n ys)
   stuffing : Bytes (after e s n ys)
-  versions : Each (λ x. x .version ≡ 0) (ensembleRowsAt e s n ys)
 
 rows-of : (e s n : ℕ) (ys : List ℕ) → Bytes ys → ensemblesChecks e s n ys ≡ Fine → RowsOf e s n ys
 unfolding flatMap ensembleRowsAt ensembleRowAt after
-rows-of e s zero ys b p = record { held = tt; written = refl; widened = tt; stuffing = b; versions = tt }
+rows-of e s zero ys b p = record { held = tt; written = refl; widened = tt; stuffing = b }
 rows-of e s (suc n) ys b p =
     let h = ensemble-passes e s n ys p in
     let more = past e s ys in
@@ -210,7 +215,6 @@ rows-of e s (suc n) ys b p =
         r .widened,
       );
       stuffing = r .stuffing;
-      versions = (h .0 .version, r .versions);
     }
 
 -- ---- chunks
@@ -301,7 +305,6 @@ accepted-carried {xs} {k} {m} {l} b a =
           };
       bytes = bytes;
       major = p .0 .major;
-      versions = r .versions;
       kind = a .kind;
       minor = a .minor;
       list = list-of xs ∙ a .list;

@@ -2,13 +2,15 @@
 -- carry. The record of a table has what the table has: reserved bits, extension bytes and stuffing too.
 use Prim.Native.Nat.{ℕ, _≤_}
 use mathlib.Core.Path.{_≡_}
+use mathlib.Core.Bool.{cond}
 use mathlib.Core.List.{List, _∷_, _++_, map, flatMap}
+use lib.Dec.{eqb}
 use lib.ListN.{length}
 use Rattle.octets.specs.Bits.{Field, field, run, bytesOf, Held}
 use Rattle.octets.specs.Each.{Each}
 use Rattle.meaning.specs.declared.Kind.{Kind}
 use Rattle.meaning.specs.Sizes.{longestChunk}
-use Rattle.meaning.specs.Lists.{Service, Ensemble, FicList, kindOf}
+use Rattle.meaning.specs.Lists.{Service, Known, Unknown, Ensemble, known, unknown, FicList, kindOf}
 
 -- ---- the inner loop of Table 6.6
 
@@ -104,21 +106,28 @@ pub record Allowed (c : Chunk) : Type 0 where
 abbrev pub serviceOf : ServiceRow → Service
 serviceOf v = record { id = v .id; multi = v .multi; status = v .status; sp = v .sp }
 
-abbrev pub ensembleOf : EnsembleRow → Ensemble
-ensembleOf e =
+-- an ensemble of version 0
+abbrev pub knownIn : EnsembleRow → Known
+knownIn e =
     record { id = e .id; slt = e .slt; gat = e .gat; eat = e .eat; channel = e .channel; services = map serviceOf (e .services) }
+
+-- of any other version: its flags, its channel and its services are no part of the list
+abbrev pub unknownIn : EnsembleRow → Unknown
+unknownIn e = record { id = e .id; version = e .version }
+
+abbrev pub ensembleOf : EnsembleRow → Ensemble
+ensembleOf e = cond (eqb (e .version) 0) (known (knownIn e)) (unknown (unknownIn e))
 
 abbrev pub listOf : Chunk → FicList
 listOf c = record { stream = c .stream; ensembles = map ensembleOf (c .ensembles) }
 
--- the bytes xs are a chunk of major version 0 whose ensembles are all of version 0, and it carries the list l for the frame k in the minor
--- edition m: any extension bytes, any reserved bits, any stuffing
+-- the bytes xs are a chunk of major version 0, and it carries the list l for the frame k in the minor edition m: any extension bytes, any
+-- reserved bits, any stuffing, and anything inside an ensemble of another version than 0
 pub record Carries (xs : List ℕ) (k : Kind) (m : ℕ) (l : FicList) : Type 0 where
   pub chunk : Chunk
   pub allowed : Allowed chunk
   pub bytes : wire chunk ≡ xs
   pub major : chunk .major ≡ 0
-  pub versions : Each (λ x. x .version ≡ 0) (chunk .ensembles)
   pub kind : kindOf (chunk .current) ≡ k
   pub minor : chunk .minor ≡ m
   pub list : listOf chunk ≡ l

@@ -1,14 +1,14 @@
 -- Document 01's numbers, and what an answer says in them.
 use Prim.Native.Nat.{ℕ}
 use Rattle.meaning.specs.declared.Refusal.{Refusal}
-use Rattle.meaning.specs.declared.Refusal.the-variants.{ShortBuffer, SegmentLength, SegmentType, ErrorBit, OtherMajor, NumberAboveLast, Clash, TooLong, EndsEarly, KindDiffers, OtherVersion, BadDesk}
+use Rattle.meaning.specs.declared.Refusal.the-variants.{ShortBuffer, SegmentLength, SegmentType, ErrorBit, OtherMajor, NumberAboveLast, Clash, TooLong, EndsEarly, KindDiffers, BadDesk}
 use Rattle.meaning.specs.declared.Checked.{Checked}
 use Rattle.meaning.specs.declared.Checked.the-variants.{Fine, Fault}
 use Rattle.meaning.specs.declared.Read.{Read}
 use Rattle.meaning.specs.declared.Read.the-variants.{Listed, Refused}
 use Rattle.meaning.specs.Lists.{currentOf}
 
--- the table "The numbers"; the writer's are in writer/specs/Writing.antt
+-- the table "The numbers"; the writer's are in writer/specs/Writing.antt. 11 is not given
 abbrev pub numberOf : Refusal → ℕ
 numberOf ShortBuffer = 1
 numberOf SegmentLength = 2
@@ -20,7 +20,6 @@ numberOf Clash = 7
 numberOf TooLong = 8
 numberOf EndsEarly = 9
 numberOf KindDiffers = 10
-numberOf OtherVersion = 11
 numberOf BadDesk = 12
 
 -- what some checks find: the refusal's number, 0 where they find nothing

@@ -2,20 +2,20 @@
 -- and leaves in the lent buffer.
 use Prim.Native.Nat.{ℕ, zero, suc, _+_, _*_, _/_, _%_}
 use mathlib.Core.Path.{_≡_}
-use mathlib.Core.Bool.{not}
+use mathlib.Core.Bool.{not, cond}
 use mathlib.Core.List.{List, [], _∷_, _++_}
 use lib.Dec.{ltb, eqb}
 use lib.ListN.{length, getD, drop}
 use Rattle.octets.specs.Word.{word}
 use Rattle.octets.specs.Checks.{check}
 use Rattle.meaning.specs.declared.Kind.{Kind}
-use Rattle.meaning.specs.declared.Refusal.the-variants.{ShortBuffer, OtherMajor, TooLong, EndsEarly, OtherVersion}
+use Rattle.meaning.specs.declared.Refusal.the-variants.{ShortBuffer, OtherMajor, TooLong, EndsEarly}
 use Rattle.meaning.specs.declared.Checked.{Checked}
 use Rattle.meaning.specs.declared.Checked.the-variants.{Fine, Fault}
 use Rattle.meaning.specs.declared.Read.{Read}
 use Rattle.meaning.specs.declared.Read.the-variants.{Listed, Refused}
 use Rattle.meaning.specs.Sizes.{longestChunk, chunkHeaderBytes, ensembleBytes, serviceBytes, longestListing}
-use Rattle.meaning.specs.Lists.{Service, Ensemble, FicList, kindOf}
+use Rattle.meaning.specs.Lists.{Service, Known, Unknown, Ensemble, known, unknown, FicList, kindOf}
 use Rattle.meaning.specs.Listing.{listing}
 
 -- ---- the fields: of a chunk xs, of an ensemble at the start of ys, of a service at the start of zs
@@ -73,9 +73,8 @@ unfoldable pub ensemblesChecks : ℕ → ℕ → ℕ → List ℕ → Checked
 ensemblesChecks e s zero ys = Fine
 ensemblesChecks e s (suc n) ys =
     check (ltb (length ys) (ensembleBytes + e)) (Fault EndsEarly)  -- 9
-    (check (not (eqb (versionIn ys) 0)) (Fault OtherVersion)  -- 11
     (check (ltb (length (inside e ys)) (servicesRoom e s ys)) (Fault EndsEarly)  -- 9
-    (ensemblesChecks e s n (past e s ys))))
+    (ensemblesChecks e s n (past e s ys)))
 
 unfoldable pub checks : List ℕ → Checked
 checks xs =
@@ -96,8 +95,9 @@ unfoldable pub servicesAt : ℕ → ℕ → List ℕ → List Service
 servicesAt s zero zs = []
 servicesAt s (suc n) zs = serviceAt zs ∷ servicesAt s n (drop (serviceBytes + s) zs)
 
-abbrev pub ensembleAt : ℕ → ℕ → List ℕ → Ensemble
-ensembleAt e s ys =
+-- an ensemble of version 0
+abbrev pub knownAt : ℕ → ℕ → List ℕ → Known
+knownAt e s ys =
     record {
       id = getD ys 0 0;
       slt = getD ys 2 0 / 128;
@@ -106,6 +106,13 @@ ensembleAt e s ys =
       channel = getD ys 2 0 % 32;
       services = servicesAt s (servicesIn e ys) (inside e ys);
     }
+
+-- of any other version: what is inside it is passed over
+abbrev pub unknownAt : List ℕ → Unknown
+unknownAt ys = record { id = getD ys 0 0; version = versionIn ys }
+
+abbrev pub ensembleAt : ℕ → ℕ → List ℕ → Ensemble
+ensembleAt e s ys = cond (eqb (versionIn ys) 0) (known (knownAt e s ys)) (unknown (unknownAt ys))
 
 -- n ensembles at the start of ys
 unfoldable pub ensemblesAt : ℕ → ℕ → ℕ → List ℕ → List Ensemble

@@ -1,5 +1,5 @@
--- Document 01, "The writer": which byte strings are well formed listings, and the list that one says. The records' layouts are those of
--- Listing.antt.
+-- Document 01, "The writer": which byte strings are well formed listings for it, and the list that one says. The records' layouts are those of
+-- Listing.antt. An unknown ensemble can't be sent, so its record is not well formed here.
 use Prim.Native.Nat.{ℕ, zero, suc, _*_, _/_, _%_}
 use mathlib.Core.Bool.{Bool, true, _&&_}
 use mathlib.Core.List.{List, [], _∷_}
@@ -9,7 +9,7 @@ use Rattle.octets.specs.Same.{same}
 use Rattle.octets.specs.Word.{word}
 use Rattle.records.specs.Records.{markBytes}
 use Rattle.meaning.specs.Sizes.{tsBytes, enBytes, svBytes, mostFlags, mostChannel, mostMulti, mostStatus, mostSP}
-use Rattle.meaning.specs.Lists.{Service, Ensemble, FicList}
+use Rattle.meaning.specs.Lists.{Service, Known, Ensemble, known, FicList}
 use Rattle.meaning.specs.Listing.{markTS, markEN, markSV}
 
 -- the record at the start of zs has the mark
@@ -56,7 +56,7 @@ afterEN ys = drop enBytes ys
 abbrev pub afterServices : List ℕ → List ℕ
 afterServices ys = drop (svBytes * countSaid ys) (afterEN ys)
 
-abbrev pub ensembleSaid : List ℕ → Ensemble
+abbrev pub ensembleSaid : List ℕ → Known
 ensembleSaid ys =
     record {
       id = getD ys 2 0;
@@ -75,7 +75,7 @@ ensemblesFit (suc n) ys = enFits ys && (servicesFit (countSaid ys) (afterEN ys) 
 
 unfoldable pub ensemblesSaid : ℕ → List ℕ → List Ensemble
 ensemblesSaid zero ys = []
-ensemblesSaid (suc n) ys = ensembleSaid ys ∷ ensemblesSaid n (afterServices ys)
+ensemblesSaid (suc n) ys = known (ensembleSaid ys) ∷ ensemblesSaid n (afterServices ys)
 
 -- ---- a listing: it is well formed; the list that it says
 

@@ -22,6 +22,9 @@ tsBytes = 5
 abbrev pub enBytes : ℕ
 enBytes = 6
 
+abbrev pub euBytes : ℕ
+euBytes = 4
+
 abbrev pub svBytes : ℕ
 svBytes = 7
 

@@ -22,7 +22,6 @@ pub enum Refusal {
     TooLong,
     EndsEarly,
     KindDiffers,
-    OtherVersion,
     BadDesk,
 }
 
@@ -52,12 +51,14 @@ pub const ENSEMBLE_BYTES: usize = 4;
 
 pub const SERVICE_BYTES: usize = 3;
 
-// The longest listing of a chunk, and the listing's three records.
+// The longest listing of a chunk, and the listing's four records.
 pub const LONGEST_LISTING: usize = 1292;
 
 pub const TS_BYTES: usize = 5;
 
 pub const EN_BYTES: usize = 6;
+
+pub const EU_BYTES: usize = 4;
 
 pub const SV_BYTES: usize = 7;
 
@@ -104,7 +105,6 @@ pub fn number_of(refusal: Refusal) -> u8
         Refusal::TooLong => 8,
         Refusal::EndsEarly => 9,
         Refusal::KindDiffers => 10,
-        Refusal::OtherVersion => 11,
         Refusal::BadDesk => 12,
     }
 }

@@ -16,9 +16,9 @@ use Rattle.meaning.specs.declared.Read.the-variants.{Listed, Refused}
 use Rattle.meaning.specs.Sizes.{longestListing}
 use Rattle.meaning.specs.Numbers.{numberOf, readFault}
 use Rattle.meaning.specs.Lists.{FicList}
-use Rattle.meaning.specs.Layout.{Carries}
+use Rattle.meaning.specs.Layout.{wire, Carries}
 use Rattle.meaning.specs.Said.{listSaid}
-use Rattle.meaning.specs.Plain.{Oldest}
+use Rattle.meaning.specs.Plain.{plain, Oldest, VersionsZero}
 use Rattle.meaning.specs.Reading.{readChecks, readAnswer, ReadSays}
 use Rattle.meaning.proofs.Answers as reading
 use Rattle.segments.specs.Segment.{segmentKind}
@@ -146,15 +146,21 @@ module _ (xs : List ℕ) (k : Kind) (output : List ℕ) (w : Sendable xs) (space
   pub read-whole-after-write : (before : List ℕ) → longestListing ≤ length before → ReadWhole xs k (writeOutput xs k output) before
   read-whole-after-write = fields.read-whole xs k output w space
 
--- write after read: a chunk of minor edition 0, without extensions and with all reserved bits ones comes back byte for byte up to its stuffing
-module _ {ys : List ℕ} {k : Kind} {m : ℕ} {l : FicList} (h : Carries ys k m l) (oldest : Oldest (h .chunk)) (buffer output : List ℕ) where
+-- write after read: a chunk of minor edition 0, without extensions, with all reserved bits ones and with all ensembles of version 0 comes back
+-- byte for byte up to its stuffing
+module _ {ys : List ℕ} {k : Kind} {m : ℕ} {l : FicList} (h : Carries ys k m l) (oldest : Oldest (h .chunk)) (versions : VersionsZero (h .chunk)) (buffer output : List ℕ) where
   pub write-after-read : longestListing ≤ length buffer → shortestOutput ≤ length output → WrittenBack ys k l (h .chunk .stuffing) buffer output
-  write-after-read = fields.write-after-read h oldest buffer output
+  write-after-read = fields.write-after-read h oldest versions buffer output
 
--- ---- demand 3: any edition's chunk in pieces, in any order, among any other segments that it allows
+-- ---- demand 3: any edition's chunk, with ensembles of any versions, in pieces, in any order, among any other segments that it allows
 
 pub every-list-comes-out : ListsAll segmentAfter
 every-list-comes-out = once.lists-all
+
+-- what comes out is what the reader gives for the same list as the oldest edition sends it
+module _ {ys : List ℕ} {k : Kind} {m : ℕ} {l : FicList} (h : Carries ys k m l) where
+  pub oldest-read : (before : List ℕ) → longestListing ≤ length before → ReadList (wire (plain k l)) before k 0 l
+  oldest-read = fields.chunk-read (rounds.oldest-carried h)
 
 -- the answers that it says, read out: of n pieces those in `earlier` come, then the last missing one, i, then those in `later`
 module _ (n : ℕ) (k : Kind) (size : ℕ) {earlier : List ℕ} {i : ℕ} {later : List ℕ} (c : LastMissing n earlier i later) where

@@ -6,22 +6,27 @@ use Prim.Native.Nat.{ℕ, _≤_, _<_}
 use lib.ListN.{length, drop}
 use Rattle.octets.specs.Bits.{Bytes, Held}
 use Rattle.octets.specs.Each.{Each}
+use Rattle.octets.proofs.Laws.{either}
 use Rattle.text.specs.Text.{text}
 use Rattle.meaning.specs.declared.Kind.{Kind}
 use Rattle.meaning.specs.declared.Refusal.{Refusal}
 use Rattle.meaning.specs.declared.Checked.the-variants.{Fault}
 use Rattle.meaning.specs.declared.Read.the-variants.{Listed}
 use Rattle.meaning.specs.Sizes.{longestListing}
-use Rattle.meaning.specs.Lists.{FicList}
+use Rattle.meaning.specs.Lists.{FicList, AllKnown}
 use Rattle.meaning.specs.Layout.{Carries}
-use Rattle.meaning.specs.Said.{listSaid}
-use Rattle.meaning.specs.Plain.{Oldest}
+use Rattle.meaning.specs.Listing.{listing}
+use Rattle.meaning.specs.Said.{listingFits, listSaid}
+use Rattle.meaning.specs.Plain.{Fits, Oldest, VersionsZero}
 use Rattle.meaning.specs.Reading.{readChecks, readAnswer, ReadSays}
 use Rattle.meaning.proofs.Answers as reading
+use Rattle.meaning.proofs.Said.{fitting-known}
 use Rattle.segments.specs.Segment.{Head, headFields, segment}
 use Rattle.segments.specs.Cut.{segmentCount, Choice, Suits, pieceOf}
 use Rattle.segments.proofs.Heads.{head-read}
 use Rattle.writer.specs.declared.Unwritten.{Unwritten}
+use Rattle.writer.specs.declared.Unwritten.the-variants.{BadListing}
+use Rattle.writer.specs.declared.Written.the-variants.{Refused as NotWritten}
 use Rattle.writer.specs.Writing.{Fine as WriteFine, Fault as WriteFault, shortestOutput, plainSegments, writeChecks, writeAnswer, writeOutput}
 use Rattle.writer.proofs.Answers as writing
 use Rattle.typed.specs.Typed.{logOf}
@@ -63,6 +68,13 @@ module _ (xs : List ℕ) (k : Kind) (before : List ℕ) where
   pub write-accepted : writeChecks xs before ≡ WriteFine → WriteAnswered xs k before (plainSegments k (listSaid xs))
   write-accepted e = let h = writing.written-values xs k before e in record { values = h .0; output = h .1 }
 
+-- no listing with an unknown ensemble is written
+pub unknown-refused : (l : FicList) → Fits l → (AllKnown l → ⊥) → (k : Kind) (output : List ℕ) → shortestOutput ≤ length output → writeAnswer (listing l) k output ≡ NotWritten BadListing
+unknown-refused l fits unknown k output space =
+    either (listingFits (listing l))
+    (λ formed. absurd (unknown (fitting-known l fits formed)))
+    (λ bad. writing.answer-bad (listing l) k output space bad)
+
 -- ---- round trips
 
 module _ (xs : List ℕ) (k : Kind) (output : List ℕ) (w : Sendable xs) (space : shortestOutput ≤ length output) where
@@ -73,10 +85,10 @@ module _ (xs : List ℕ) (k : Kind) (output : List ℕ) (w : Sendable xs) (space
   pub read-whole : (before : List ℕ) → longestListing ≤ length before → ReadWhole xs k (writeOutput xs k output) before
   read-whole = rounds.read-whole-after-write xs k output (w .bytes) (w .fits) (w .room) space
 
-module _ {ys : List ℕ} {k : Kind} {m : ℕ} {l : FicList} (h : Carries ys k m l) (oldest : Oldest (h .chunk)) (buffer output : List ℕ) where
+module _ {ys : List ℕ} {k : Kind} {m : ℕ} {l : FicList} (h : Carries ys k m l) (oldest : Oldest (h .chunk)) (versions : VersionsZero (h .chunk)) (buffer output : List ℕ) where
   pub write-after-read : longestListing ≤ length buffer → shortestOutput ≤ length output → WrittenBack ys k l (h .chunk .stuffing) buffer output
   write-after-read long space =
-      let r = rounds.write-after-read h oldest buffer output long space in record { answer = r .0; bytes = r .1; rest = r .2 }
+      let r = rounds.write-after-read h oldest versions buffer output long space in record { answer = r .0; bytes = r .1; rest = r .2 }
 
 pub log-after-write : (xs : List ℕ) (k : Kind) → Sendable xs → (s : State) → Begins s → printed s (logOf (plainSegments k (listSaid xs))) ≡ orderLines k xs (countFor xs) ++ text "END 0\n"
 log-after-write xs k w s b = written-printed xs k (w .bytes) (w .fits) (w .room) (s .desk) (b .start) (s .first) (s .second) (b .first) (b .second)

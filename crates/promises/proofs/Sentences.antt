@@ -15,9 +15,9 @@ use Rattle.meaning.specs.declared.Kind.the-variants.{This, Next}
 use Rattle.meaning.specs.declared.Refusal.the-variants.{Clash}
 use Rattle.meaning.specs.declared.Checked.the-variants.{Fine}
 use Rattle.records.specs.Records.{markBytes}
-use Rattle.meaning.specs.Sizes.{longestChunk, longestListing, tsBytes, enBytes, svBytes}
-use Rattle.meaning.specs.Lists.{FicList, servicesOf}
-use Rattle.meaning.specs.Layout.{Carries, wire}
+use Rattle.meaning.specs.Sizes.{longestChunk, longestListing, tsBytes, enBytes, euBytes, svBytes}
+use Rattle.meaning.specs.Lists.{Ensemble, FicList, servicesOf, knownCount, unknownCount, AllKnown}
+use Rattle.meaning.specs.Layout.{EnsembleRow, ensembleOf, Carries, wire}
 use Rattle.meaning.specs.Listing.{listing}
 use Rattle.meaning.specs.Numbers.{checkedNumber}
 use Rattle.meaning.specs.Reading.{checks, listIn, Accepts, readAnswer, readBuffer}
@@ -27,15 +27,16 @@ use Rattle.meaning.proofs.Complete.{carried-accepted}
 use Rattle.meaning.proofs.Sound.{accepted-carried}
 use Rattle.meaning.proofs.Lengths.{length-listing, listing-fits}
 use Rattle.meaning.proofs.Answers.{dress-disregarded}
-use Rattle.meaning.proofs.Samples.{firstChunk, firstList, first-carried, longest-reached}
-use Rattle.meaning.proofs.Said.{bytes-listing, listing-fitting, said-listing, listing-said, said-fitting, listing-once}
-use Rattle.meaning.proofs.Plain.{length-plain, carried-fitting}
+use Rattle.meaning.proofs.Samples.{firstChunk, firstList, first-carried, unknownChunk, unknownList, unknownListing, unknown-carried, longest-reached}
+use Rattle.meaning.proofs.Said.{bytes-listing, listing-fitting, said-listing, listing-said, said-fitting, said-known, listing-once}
+use Rattle.meaning.proofs.Plain.{length-plain, carried-fitting, inside-disregarded}
 use Rattle.segments.specs.Segment.{segmentBytes, Head, headFields, segment, segmentKind, numberIn, payloadBytes, segmentChecks}
 use Rattle.segments.specs.Cut.{segmentCount}
 use Rattle.segments.proofs.Samples.{given, samples, samples-hold}
 use Rattle.segments.proofs.Checks.{check-numbers}
 use Rattle.segments.proofs.Cut.{segments-hold, segments-fewest}
 use Rattle.writer.specs.declared.Unwritten.{Unwritten}
+use Rattle.writer.specs.declared.Unwritten.the-variants.{BadListing}
 use Rattle.writer.specs.declared.Written.{Written}
 use Rattle.writer.specs.declared.Written.the-variants.{Segments, Refused as NotWritten}
 use Rattle.writer.specs.Writing.{shortestOutput, unwrittenNumber, plainSegments, writeAnswer}
@@ -74,7 +75,7 @@ use Rattle.gatherings.proofs.Rounds.{carried-short, written-so-many}
 use Rattle.promises.specs.Says.{Sendable, countFor, Alike, SameSlot, SameToAll, FieldsRead, withBits, Begins, orderLines, ReadParts, WriteParts}
 use Rattle.promises.proofs.Fields as fields
 
--- ---- layouts: reserved bits, extensions, stuffing and the minor edition are disregarded; the listing's length
+-- ---- layouts: reserved bits, extensions, stuffing, the minor edition and what is inside an unknown ensemble are disregarded; the listing's length
 
 module _ {xs : List ℕ} {k : Kind} {m : ℕ} {l : FicList} where
   -- the meaning stands twice, as the standard's layout and as document 01's checks with what is read; the two agree
@@ -88,16 +89,28 @@ module _ {xs : List ℕ} {k : Kind} {m : ℕ} {l : FicList} where
     pub dress-ignored : Carries xs k m l → Carries ys k n l → (before : List ℕ) → readBuffer xs before ≡ readBuffer ys before
     dress-ignored = dress-disregarded
 
-  -- what a chunk carries can be written
-  pub carried-is-writable : Carries xs k m l → Fits l × (plainLength l ≤ longestChunk)
-  carried-is-writable h = (carried-fitting h, carried-short h)
+  -- what a chunk carries fits the tables, and a chunk of the oldest edition has room for it
+  pub carried-fits : Carries xs k m l → Fits l × (plainLength l ≤ longestChunk)
+  carried-fits h = (carried-fitting h, carried-short h)
 
--- the layout is not empty: document 01's first sample carries its list
+-- what is inside an unknown ensemble is no part of the list: of two rows with one id and one version that is not 0, all else may differ
+pub inside-ignored : (x y : EnsembleRow) → (x .version ≡ 0 → ⊥) → x .id ≡ y .id → x .version ≡ y .version → ensembleOf x ≡ ensembleOf y
+inside-ignored = inside-disregarded
+
+-- the layout is not empty: document 01's first sample carries its list, and that with an ensemble of version 1 carries one with this listing
 pub some-chunk : Carries firstChunk This 0 firstList
 some-chunk = first-carried
 
-pub listing-length : (l : FicList) → length (listing l) ≡ tsBytes + enBytes * length (l .ensembles) + svBytes * length (servicesOf l)
-listing-length = length-listing
+pub some-unknown : Carries unknownChunk This 0 unknownList × (listing unknownList ≡ unknownListing)
+some-unknown = unknown-carried
+
+-- a listing's length, from the numbers of its known ensembles, of its unknown ones, and of its services
+module _ (l : FicList) where
+  abbrev es : List Ensemble
+  es = l .ensembles
+
+  pub listing-length : length (listing l) ≡ tsBytes + enBytes * knownCount es + euBytes * unknownCount es + svBytes * length (servicesOf l)
+  listing-length = length-listing l
 
 -- 1,292 bytes are enough for every accepted chunk, and are reached
 pub longest-is-enough : (xs : List ℕ) → checks xs ≡ Fine → length (listing (listIn xs)) ≤ longestListing
@@ -205,14 +218,20 @@ module _ {A : Type 0} (d : Desk) (formed : wellFormed d ≡ true) (x y : A) wher
 pub shown-length : (k : Kind) (d : Desk) (first second : List ℕ) → length (shown k d first second) ≡ shownLength k d first second
 shown-length = length-shown
 
--- ---- the writer: the well formed listings are the listings of the lists whose fields fit, each of one list only
+-- ---- the writer: the well formed listings are the listings of the lists whose fields fit and whose ensembles are all known
 
-pub well-formed-said : (xs : List ℕ) → Bytes xs → listingFits xs ≡ true → Fits (listSaid xs) × (listing (listSaid xs) ≡ xs)
-well-formed-said xs b f = (said-fitting xs b f, listing-said xs b f)
+pub well-formed-said : (xs : List ℕ) → Bytes xs → listingFits xs ≡ true → Fits (listSaid xs) × AllKnown (listSaid xs) × (listing (listSaid xs) ≡ xs)
+well-formed-said xs b f = (said-fitting xs b f, said-known xs, listing-said xs b f)
 
-pub fitting-well-formed : (l : FicList) → Fits l → Bytes (listing l) × (listingFits (listing l) ≡ true) × (listSaid (listing l) ≡ l)
-fitting-well-formed l f = (bytes-listing l f, listing-fitting l f, said-listing l f)
+pub fitting-well-formed : (l : FicList) → Fits l → AllKnown l → Bytes (listing l) × (listingFits (listing l) ≡ true) × (listSaid (listing l) ≡ l)
+fitting-well-formed l f k = let formed = listing-fitting l f k in (bytes-listing l f, formed, said-listing l f formed)
 
+-- one with an unknown ensemble is refused with 13
+module _ (l : FicList) (fits : Fits l) (unknown : AllKnown l → ⊥) where
+  pub unknown-not-written : (k : Kind) (output : List ℕ) → shortestOutput ≤ length output → writeAnswer (listing l) k output ≡ NotWritten BadListing
+  unknown-not-written = fields.unknown-refused l fits unknown
+
+-- and any listing, also one with unknown ensembles, is of one list only
 pub one-list-only : (l m : FicList) → Fits l → Fits m → listing l ≡ listing m → l ≡ m
 one-list-only = listing-once
 

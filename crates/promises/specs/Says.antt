@@ -41,7 +41,7 @@ use Rattle.lines.specs.Lines.{answerLines}
 
 -- it refuses with f: one of these numbers, every other value 0, and nothing is written
 pub record ReadRefused (xs before : List ℕ) (f : Refusal) : Type 0 where
-  pub number : T (among (1 ∷ 5 ∷ 8 ∷ 9 ∷ 11 ∷ []) (numberOf f))
+  pub number : T (among (1 ∷ 5 ∷ 8 ∷ 9 ∷ []) (numberOf f))
   pub values : readValues (readAnswer xs before) ≡ record { number = numberOf f; kind = 0; minor = 0; length = 0 }
   pub buffer : readBuffer xs before ≡ before
 
@@ -84,7 +84,7 @@ countFor xs = segmentCount (plainLength (listSaid xs))
 
 -- it refuses a segment with f
 pub record SegmentRefused (f : Refusal) (a : Answer) : Type 0 where
-  pub number : T (among (1 ∷ 2 ∷ 3 ∷ 4 ∷ 5 ∷ 6 ∷ 7 ∷ 9 ∷ 10 ∷ 11 ∷ 12 ∷ []) (numberOf f))
+  pub number : T (among (1 ∷ 2 ∷ 3 ∷ 4 ∷ 5 ∷ 6 ∷ 7 ∷ 9 ∷ 10 ∷ 12 ∷ []) (numberOf f))
   pub values : answerValues a ≡ record { number = numberOf f; missing = 0; kind = 0; length = 0 }
 
 -- it answers a list of the kind k and n bytes

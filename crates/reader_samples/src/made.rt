@@ -61,13 +61,32 @@ impl Made {
             .with(count)
     }
 
-    // The fields of an ensemble that has so many services.
-    pub fn ensemble(self, id: u8, e: u8, services: u8) -> Self {
+    // The fields of an ensemble with this second byte, that has so many services.
+    fn fields(self, id: u8, second: u8, e: u8, services: u8) -> Self {
         self.with(id)
-            .with(0xE0)
+            .with(second)
             .with(0x5F)
             .fill((e % 8) as usize, 0xB2)
             .with(services)
+    }
+
+    // Those of an ensemble of version 0.
+    pub fn ensemble(self, id: u8, e: u8, services: u8) -> Self {
+        self.fields(id, 0xE0, e, services)
+    }
+
+    // Those of an unknown one, of a version from 1 to 31.
+    pub fn trial(self, id: u8, e: u8, services: u8) -> Self {
+        self.fields(id, 0xE1 + id % 31, e, services)
+    }
+
+    // Unknown ensembles without services, numbered from one number up to another.
+    pub fn trials(self, from: u8, to: u8, e: u8) -> Self {
+        let mut made = self;
+        for id in from..to {
+            made = made.trial(id, e, 0);
+        }
+        made
     }
 
     pub fn service(self, i: u8, s: u8) -> Self {

@@ -118,6 +118,10 @@ fn order() {
         b"\x07\x03\x01\x23\x00\x00\x00\x00\x00\x00\x00\x00",
         LONGEST_LISTING,
     );
+}
+
+// Ensembles of other versions: their outer form is walked over, and what is inside is not listed.
+fn unknown() {
     run(
         b"version 1, no room for its services",
         b"\x00\x03\x01\x23\x01\x05\xE1\x83\xFF",
@@ -129,10 +133,39 @@ fn order() {
         LONGEST_LISTING,
     );
     run(
-        b"second ensemble of version 1",
+        b"version 1, services cut",
+        b"\x00\x03\x01\x23\x01\x05\xE1\x83\x01\x0A\x01",
+        LONGEST_LISTING,
+    );
+    run(
+        b"version 1, reserved bits zeros",
+        b"\x00\x03\x01\x23\x01\x05\x01\x83\x00",
+        LONGEST_LISTING,
+    );
+    run(
+        b"second ensemble of version 31",
         b"\x00\x03\x01\x23\x02\x05\xE0\x83\x00\x06\xFF\x00\x00",
         LONGEST_LISTING,
     );
+    run(
+        b"last ensemble of version 2, services cut",
+        b"\x00\x03\x01\x23\x02\x05\xE0\x83\x00\x06\xE2\x00\x02\x0B\x01\xE6\x0B\x02",
+        LONGEST_LISTING,
+    );
+    run(
+        b"a trial ensemble between two",
+        b"\x01\x47\x01\x23\xAA\x03\x05\xE0\x83\xBB\xCC\x01\x0A\x01\xE6\xDD\x06\xE1\xFF\xBB\xCC\x02\x0B\x01\xE6\xDD\x0B\x02\xE6\xDD\x07\xE0\x03\xBB\xCC\x00",
+        LONGEST_LISTING,
+    );
+    run(
+        b"all ensembles unknown",
+        b"\x00\x03\x01\x23\x03\x05\xE1\x83\x00\x06\xE2\x00\x01\x0B\x01\xE6\x07\xFF\x00\x00",
+        LONGEST_LISTING,
+    );
+}
+
+// More ensembles than there are.
+fn counts() {
     run(
         b"second ensemble cut",
         b"\x00\x03\x01\x23\x02\x05\xE0\x83\x00\x06\xE0\x00",
@@ -173,6 +206,13 @@ fn longest() {
     );
 }
 
+// As many unknown ensembles as a chunk can hold.
+fn all_unknown() {
+    let most = Made::new().header(0, 0, 0, 138).trials(0, 138, 0);
+    run_made(b"138 unknown ensembles", most, LONGEST_LISTING);
+    run_made(b"138 unknown ensembles, cut", most.cut(), LONGEST_LISTING);
+}
+
 // Every extension 7 bytes long: one ensemble with a service, and 8 with 46, which fill the chunk.
 fn extended() {
     let small = Made::new()
@@ -188,6 +228,9 @@ fn extended() {
     let full = first.ensembles(1, 8, 7, 7, 6);
     run_made(b"extensions 7, 560 bytes", full, LONGEST_LISTING);
     run_made(b"extensions 7, 559 bytes", full.cut(), LONGEST_LISTING);
+    let trial = Made::new().header(7, 7, 7, 8).trial(0, 7, 4).services(7, 4);
+    let other = trial.ensembles(1, 8, 7, 7, 6);
+    run_made(b"extensions 7, the first unknown", other, LONGEST_LISTING);
 }
 
 fn stuffed_with(n: usize) {
@@ -219,7 +262,10 @@ fn buffers() {
 fn main() {
     samples();
     order();
+    unknown();
+    counts();
     longest();
+    all_unknown();
     extended();
     stuffed();
     buffers();

@@ -85,6 +85,10 @@ module _ (xs : List ℕ) (k : Kind) (before : List ℕ) where
   pub says-once : {a b : Written} {p q : List ℕ} → WriteSays xs k before a p → WriteSays xs k before b q → (a ≡ b) × (p ≡ q)
   says-once s t = (s .answers ∙ sym (t .answers), s .leaves ∙ sym (t .leaves))
 
+  -- a listing that is not well formed is refused with 13
+  pub answer-bad : shortestOutput ≤ length before → listingFits xs ≡ false → writeAnswer xs k before ≡ Refused BadListing
+  answer-bad room bad = sym (says-refused (checks-bad xs before room bad) .answers)
+
   -- a refusal is one of three numbers, with no segment, and writes nothing
   pub refusal-values : {f : Unwritten} → writeChecks xs before ≡ Fault f → T (among (1 ∷ 13 ∷ 14 ∷ []) (unwrittenNumber f)) × (writtenValues (writeAnswer xs k before) ≡ record { number = unwrittenNumber f; count = 0 }) × (writeOutput xs k before ≡ before)
   unfolding writeAnswer writeOutput

@@ -10,7 +10,7 @@ use Rattle.octets.specs.Bits.{Bytes}
 use Rattle.octets.proofs.Laws.{high-word, low-word, getD-byte, bytes-drop}
 use Rattle.meaning.specs.declared.Kind.{Kind}
 use Rattle.meaning.specs.Sizes.{tsBytes, enBytes, svBytes}
-use Rattle.meaning.specs.Lists.{currentOf}
+use Rattle.meaning.specs.Lists.{known, currentOf}
 use Rattle.meaning.specs.Layout.{wire}
 use Rattle.meaning.specs.Said.{serviceSaid, servicesSaid, countSaid, afterEN, afterServices, ensembleSaid, ensemblesSaid, listingFits, listSaid}
 use Rattle.meaning.specs.Plain.{plainService, plainEnsemble, plain, plainLength}
@@ -35,11 +35,11 @@ unfolding servicesLaid servicesSaid flatMap
 services-laid zero zs b = refl
 services-laid (suc n) zs b = ap₂ _++_ (service-laid zs b) (services-laid n (drop svBytes zs) (bytes-drop svBytes zs b))
 
-ensemble-laid : (ys : List ℕ) → Bytes ys → ensembleLaid ys ≡ ensembleRow (plainEnsemble (ensembleSaid ys))
+ensemble-laid : (ys : List ℕ) → Bytes ys → ensembleLaid ys ≡ ensembleRow (plainEnsemble (known (ensembleSaid ys)))
 unfolding ensembleLaid ensembleRow
 ensemble-laid ys b =
     let f : ℕ = getD ys 3 0 in
-    let third : f * 32 + getD ys 4 0 ≡ ensembleThird (plainEnsemble (ensembleSaid ys)) = omega (arith, div-div-eq-div-mul f 2 2) in
+    let third : f * 32 + getD ys 4 0 ≡ ensembleThird (plainEnsemble (known (ensembleSaid ys))) = omega (arith, div-div-eq-div-mul f 2 2) in
     let count = sym (length-map (servicesSaid (countSaid ys) (afterEN ys)) plainService ∙ length-servicesSaid (countSaid ys) (afterEN ys)) in
     let services = services-laid (countSaid ys) (afterEN ys) (bytes-drop enBytes ys b) in
     λ i. getD ys 2 0 ∷ 224 ∷ third i ∷ count i ∷ services i

@@ -25,6 +25,10 @@ ensemble n = 0x45 ∷ 0x4E ∷ 5 ∷ 4 ∷ 3 ∷ n ∷ services n
 stream : ℕ → List ℕ → List ℕ
 stream n counts = 0x54 ∷ 0x53 ∷ 0x01 ∷ 0x23 ∷ n ∷ flatMap ensemble counts
 
+-- an unknown ensemble
+unknown : List ℕ
+unknown = 0x45 ∷ 0x55 ∷ 6 ∷ 1 ∷ []
+
 -- ---- what is answered: the listing, its number, how many segments
 
 record Sample : Type 0 where
@@ -51,10 +55,12 @@ samples =
     ∷ sample (stream 2 (1 ∷ [])) 13 0
     ∷ sample (stream 0 (1 ∷ [])) 13 0
     ∷ sample (stream 1 (184 ∷ []) ++ (0 ∷ [])) 13 0
+    ∷ sample (stream 1 [] ++ unknown) 13 0
+    ∷ sample (stream 2 (1 ∷ []) ++ unknown) 13 0
     ∷ []
 
 samples-hold : map (λ s. given (s .listing)) samples ≡ samples
-unfolding samples given sample output stream ensemble services writeAnswer plainSegments wire chunkFields ensembleFields serviceFields bytesOf octets number laid bits flatMap listingFits ensemblesFit enFits servicesFit svFits listSaid ensemblesSaid servicesSaid servicesOf upFrom
+unfolding samples given sample output unknown stream ensemble services writeAnswer plainSegments wire chunkFields ensembleFields serviceFields bytesOf octets number laid bits flatMap listingFits ensemblesFit enFits servicesFit svFits listSaid ensemblesSaid servicesSaid servicesOf upFrom
 samples-hold = refl
 
 -- the first of them: one segment, then the output as it was

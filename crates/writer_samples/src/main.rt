@@ -118,6 +118,21 @@ fn samples(kind: Kind) {
     show(b"two ensembles", kind, two());
 }
 
+// Listings with an unknown ensemble, which the reader gives and the writer refuses.
+fn unknown(kind: Kind) {
+    show(
+        b"an unknown ensemble",
+        kind,
+        Made::of(b"TS\x01\x23\x01EU\x05\x01"),
+    );
+    let between = Made::new()
+        .header(3)
+        .whole(0x2B, 2)
+        .and(b"EU\x06\x01")
+        .whole(0x9D, 1);
+    show(b"an unknown ensemble between", kind, between);
+}
+
 // The longest chunks, and those that are too long.
 fn longest(kind: Kind) {
     show(b"183 services", kind, one(183));
@@ -222,17 +237,19 @@ fn trailing(kind: Kind) {
     show(b"trailing EN", kind, two.and(b"EN"));
     show(b"trailing ensemble", kind, two.ensemble(7, 0));
     show(b"trailing service", kind, two.service(7, 0));
+    show(b"trailing unknown ensemble", kind, two.and(b"EU\x07\x01"));
     show(b"trailing header", kind, two.header(0));
     let twice = two.header(2).whole(0x2B, 2).whole(0x9D, 1);
     show(b"twice", kind, twice);
 }
 
-// Each of the three marks at one place.
+// Each of the four marks at one place.
 fn marks_at(kind: Kind, at: usize) {
     let two = two();
     show_at(b"TS at", at, kind, two.mark(at, 0x54, 0x53));
     show_at(b"EN at", at, kind, two.mark(at, 0x45, 0x4E));
     show_at(b"SV at", at, kind, two.mark(at, 0x53, 0x56));
+    show_at(b"EU at", at, kind, two.mark(at, 0x45, 0x55));
 }
 
 fn marks(kind: Kind) {
@@ -296,6 +313,7 @@ fn cuts(kind: Kind) {
 
 fn every(kind: Kind) {
     samples(kind);
+    unknown(kind);
     longest(kind);
     too_long(kind);
     lengths(kind, MOST_SEGMENTS);

@@ -5,7 +5,7 @@ use Prim.Native.Nat.{_≤_}
 use mathlib.Core.Path.{_≡_, refl, sym, _∙_}
 use lib.ListN.{length, drop}
 use Rattle.meaning.specs.Reading.{ensemblesChecks}
-use Rattle.chunk_checks.proofs.Laws.{room-small, none-there, short-there, other-there, crowded-there, next-there}
+use Rattle.chunk_checks.proofs.Laws.{room-small, none-there, short-there, crowded-there, next-there}
 use native.Mathlib.Nat.{lt-trans}
 use lib.Dec.{lit<}
 use denote.Ref.{now}
@@ -34,12 +34,6 @@ returns c =
     let l = c .before .before .loop in
     sym (short-there (now (a .chunk)) (l .at) (a .e) (a .s) (l .left) (c .before .loop-test .taken) (c .if1 .taken)) ∙ l .inv .1
 
-add-version : tie.Need-add-version Inv-loop μ-loop
-add-version c = omega arith
-
-shared-slice-read-version : tie.Need-shared-slice-read-version Inv-loop μ-loop
-shared-slice-read-version c = omega arith
-
 add-services : tie.Need-add-services Inv-loop μ-loop
 add-services c = omega arith
 
@@ -50,7 +44,7 @@ shared-slice-read-services : tie.Need-shared-slice-read-services Inv-loop μ-loo
 shared-slice-read-services c = omega arith
 
 cast-services : tie.Need-cast-services Inv-loop μ-loop
-cast-services c = record { fits = lt-trans (c .shared-slice-known2 .given _ .fits) (lit< tt) }
+cast-services c = record { fits = lt-trans (c .shared-slice-known .given _ .fits) (lit< tt) }
 
 add-inside : tie.Need-add-inside Inv-loop μ-loop
 add-inside c = omega arith
@@ -63,25 +57,17 @@ add-room c = omega arith
 
 mul-room : tie.Need-mul-room Inv-loop μ-loop
 mul-room c =
-    record { fits = lt-trans (room-small (c .shared-slice-known2 .given _ .fits) (c .before .before .before .before .before .pre .3)) (lit< tt) }
+    record { fits = lt-trans (room-small (c .shared-slice-known .given _ .fits) (c .before .before .before .before .pre .3)) (lit< tt) }
 
 sub-rest : tie.Need-sub-rest Inv-loop μ-loop
 sub-rest c = omega arith
 
 returns-2 : tie.Need-returns-2 Inv-loop μ-loop
 returns-2 c =
-    let a = c .before .before .before .before .before .before .args in
-    let l = c .before .before .before .before .before .loop in
+    let a = c .before .before .before .before .before .args in
+    let l = c .before .before .before .before .loop in
     sym
-    (other-there (now (a .chunk)) (l .at) (a .e) (a .s) (l .left) (c .before .before .before .before .loop-test .taken) (c .before .before .before .if1 .left) (c .if2 .taken))
-    ∙ l .inv .1
-
-returns-3 : tie.Need-returns-3 Inv-loop μ-loop
-returns-3 c =
-    let a = c .before .before .before .before .before .before .before .args in
-    let l = c .before .before .before .before .before .before .loop in
-    sym
-    (crowded-there (now (a .chunk)) (l .at) (a .e) (a .s) (l .left) (c .before .before .before .before .before .loop-test .taken) (c .before .before .before .before .if1 .left) (c .before .if2 .left) (c .if3 .taken))
+    (crowded-there (now (a .chunk)) (l .at) (a .e) (a .s) (l .left) (c .before .before .before .loop-test .taken) (c .before .before .if1 .left) (c .if2 .taken))
     ∙ l .inv .1
 
 add-at : tie.Need-add-at Inv-loop μ-loop
@@ -95,16 +81,16 @@ loop-less c = omega arith
 
 loop-again : tie.Need-loop-again Inv-loop μ-loop
 loop-again c =
-    let a = c .before .before .before .before .before .before .before .args in
-    let l = c .before .before .before .before .before .before .loop in (
+    let a = c .before .before .before .before .before .args in
+    let l = c .before .before .before .before .loop in (
       omega arith,
       sym
-          (next-there (now (a .chunk)) (l .at) (a .e) (a .s) (l .left) (c .before .before .before .before .before .loop-test .taken) (c .before .before .before .before .if1 .left) (c .before .if2 .left) (c .if3 .left))
+          (next-there (now (a .chunk)) (l .at) (a .e) (a .s) (l .left) (c .before .before .before .loop-test .taken) (c .before .before .if1 .left) (c .if2 .left))
           ∙ l .inv .1,
     )
 
-returns-4 : tie.Need-returns-4 Inv-loop μ-loop
-returns-4 c =
+returns-3 : tie.Need-returns-3 Inv-loop μ-loop
+returns-3 c =
     let a = c .before .before .args in
     let l = c .before .loop in
     sym (none-there (now (a .chunk)) (l .at) (a .e) (a .s) (l .left) (c .loop-test .left)) ∙ l .inv .1
@@ -119,8 +105,6 @@ check-ensembles-spec =
     sub-if1
     add-if1
     returns
-    add-version
-    shared-slice-read-version
     add-services
     add-services-2
     shared-slice-read-services
@@ -131,9 +115,8 @@ check-ensembles-spec =
     mul-room
     sub-rest
     returns-2
-    returns-3
     add-at
     sub-left
     loop-less
     loop-again
-    returns-4)
+    returns-3)

@@ -1,120 +1,74 @@
--- `listing_puts::write_ensemble` meets its contract: its six stores are the ensemble's record, and its services' records come after it. Assumes nothing.
-use native.Mathlib.Omega.{arith}
-use mathlib.Core.Path.{sym, _∙_}
-use native.Mathlib.Nat.{lt-trans}
-use lib.Dec.{lit<}
-use lib.ListN.{length-set}
-use denote.Ref.{now}
-use Rattle.chunk_checks.proofs.Laws.{services-at, room-at}
-use Rattle.listing_puts.proofs.Laws.{ensemble-stored}
+-- `listing_puts::write_ensemble` meets its contract: by the version, the records are those of one sort or the other. Assumes nothing.
 use borrow.Author.Needs.{needs}
+use Prim.Native.Nat.{ℕ, _+_}
+use mathlib.Core.Path.{sym, ap, _∙_}
+use mathlib.Core.List.{List}
+use lib.ListN.{length}
+use lib.Seq.{sets}
+use denote.Ref.{now}
+use Rattle.listing_puts.proofs.Laws.{known-there, unknown-there, length-known}
+use native.Mathlib.Omega.{arith}
 use Rattle.listing_puts.proofs.write_ensemble.Statement.{statement}
 use Rattle.listing_puts.proofs.write_ensemble.Tie as tie
 
-add-third : tie.Need-add-third
-add-third c = search needs
+add-if1 : tie.Need-add-if1
+add-if1 c = omega arith
 
-shared-slice-read-third : tie.Need-shared-slice-read-third
-shared-slice-read-third c = search needs
+shared-slice-read-if1 : tie.Need-shared-slice-read-if1
+shared-slice-read-if1 c = omega arith
 
-add-services : tie.Need-add-services
-add-services c = search needs
-
-add-services-2 : tie.Need-add-services-2
-add-services-2 c = search needs
-
-shared-slice-read-services : tie.Need-shared-slice-read-services
-shared-slice-read-services c = search needs
-
-slice-write-out : tie.Need-slice-write-out
-slice-write-out c = search needs
-
-add-out : tie.Need-add-out
-add-out c = search needs
-
-slice-write-out-2 : tie.Need-slice-write-out-2
-slice-write-out-2 c = simp length-set (omega arith)
-
-shared-slice-read-out : tie.Need-shared-slice-read-out
-shared-slice-read-out c = search needs
-
-add-out-2 : tie.Need-add-out-2
-add-out-2 c = search needs
-
-slice-write-out-3 : tie.Need-slice-write-out-3
-slice-write-out-3 c = simp length-set (omega arith)
-
-add-out-3 : tie.Need-add-out-3
-add-out-3 c = search needs
-
-slice-write-out-4 : tie.Need-slice-write-out-4
-slice-write-out-4 c = simp length-set (omega arith)
-
-add-out-4 : tie.Need-add-out-4
-add-out-4 c = search needs
-
-slice-write-out-5 : tie.Need-slice-write-out-5
-slice-write-out-5 c = simp length-set (omega arith)
-
-add-out-5 : tie.Need-add-out-5
-add-out-5 c = search needs
-
-slice-write-out-6 : tie.Need-slice-write-out-6
-slice-write-out-6 c = simp length-set (omega arith)
-
-cast-count : tie.Need-cast-count
-cast-count c = record { fits = lt-trans (c .shared-slice-known4 .given _ .fits) (lit< tt) }
-
-add-write-services : tie.Need-add-write-services
-add-write-services c = search needs
-
-add-write-services-2 : tie.Need-add-write-services-2
-add-write-services-2 c = search needs
-
-add-write-services-3 : tie.Need-add-write-services-3
-add-write-services-3 c = search needs
-
-write-services-requires : tie.Need-write-services-requires
-write-services-requires c κs =
-    let a = c .before .before .before .before .before .before .args in (
-      omega (arith, c .before .before .before .before .before .before .pre .0, room-at (now (a .chunk)) (a .at) (a .e) (a .s)),
-      simp length-set (omega (arith, c .before .before .before .before .before .before .pre .1, services-at (now (a .chunk)) (a .at) (a .e) (a .s))),
-    )
+write-known-requires : tie.Need-write-known-requires
+write-known-requires c κs =
+    let start = c .before .before .before .before .before in
+    let a = start .args in
+    let xs = now (a .chunk) in
+    let is = known-there xs (a .at) (a .e) (a .s) (c .before .if1 .taken) in
+    (start .pre .0, omega (arith, start .pre .1, ap length is, length-known xs (a .at) (a .e) (a .s)))
 
 same-length : tie.Need-same-length
-same-length c = c .before .before .write-services .kept .1 .1 .1 .1 .0 ∙ simp length-set
+same-length c = search needs
 
 returns : tie.Need-returns
 returns c =
-    let a = c .before .before .before .before .before .before .before .before .before .args in
+    let a = c .before .before .before .before .before .before .before .before .args in
     let xs = now (a .chunk) in
-    (sym (services-at xs (a .at) (a .e) (a .s)), ensemble-stored xs (now (a .out)) _ (a .at) (a .to) (a .e) (a .s) (c .before .before .write-services .ensures))
+    let is = known-there xs (a .at) (a .e) (a .s) (c .before .before .before .before .if1 .taken) in
+    let e = c .before .before .write-known .ensures in
+    (omega (arith, e .0, ap length is, length-known xs (a .at) (a .e) (a .s)), e .1 ∙ ap (sets (now (a .out)) (a .to)) (sym is))
+
+write-unknown-requires : tie.Need-write-unknown-requires
+write-unknown-requires c κs =
+    let start = c .before .before .before .before .before in
+    let a = start .args in
+    let is = unknown-there (now (a .chunk)) (a .at) (a .e) (a .s) (c .before .if1 .left) in
+    (omega (arith, start .pre .0), omega (arith, start .pre .1, ap length is))
+
+add-result : tie.Need-add-result
+add-result c =
+    let start = c .before .before .before .before .before .before .before .before in
+    let a = start .args in
+    let is = unknown-there (now (a .chunk)) (a .at) (a .e) (a .s) (c .before .before .before .before .if1 .left) in
+    omega (arith, start .pre .1, ap length is)
+
+same-length-2 : tie.Need-same-length-2
+same-length-2 c = search needs
+
+returns-2 : tie.Need-returns-2
+returns-2 c =
+    let a = c .before .before .before .before .before .before .before .before .args in
+    let is = sym (unknown-there (now (a .chunk)) (a .at) (a .e) (a .s) (c .before .before .before .before .if1 .left)) in
+    (ap (λ (t : List ℕ). a .to + length t) is, c .before .before .write-unknown .ensures ∙ ap (sets (now (a .out)) (a .to)) is)
 
 pub write-ensemble-spec : {M : Type 1} → statement M
 write-ensemble-spec =
     tie.close
     (tie.spec
-    add-third
-    shared-slice-read-third
-    add-services
-    add-services-2
-    shared-slice-read-services
-    slice-write-out
-    add-out
-    slice-write-out-2
-    shared-slice-read-out
-    add-out-2
-    slice-write-out-3
-    add-out-3
-    slice-write-out-4
-    add-out-4
-    slice-write-out-5
-    add-out-5
-    slice-write-out-6
-    cast-count
-    add-write-services
-    add-write-services-2
-    add-write-services-3
-    write-services-requires
+    add-if1
+    shared-slice-read-if1
+    write-known-requires
     same-length
-    returns)
+    returns
+    write-unknown-requires
+    add-result
+    same-length-2
+    returns-2)

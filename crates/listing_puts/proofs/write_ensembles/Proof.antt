@@ -2,15 +2,18 @@
 -- whole that was asked for. The measure is the number of ensembles left. Assumes nothing.
 use borrow.Author.Needs.{needs}
 use native.Mathlib.Omega.{arith}
+use native.Mathlib.Nat.{lt-trans}
 use Prim.Native.Nat.{_+_, _-_, _≤_}
 use mathlib.Core.Path.{_≡_, refl, sym, ap, _∙_}
 use mathlib.Core.List.{flatMap}
-use lib.ListN.{length, drop}
+use lib.Dec.{lit<}
+use lib.ListN.{length, getD, drop}
 use lib.Seq.{sets}
 use denote.Ref.{now}
 use Rattle.meaning.specs.declared.Checked.the-variants.{Fine}
 use Rattle.meaning.specs.Listing.{ensembleListing}
 use Rattle.meaning.specs.Reading.{ensemblesChecks, ensemblesAt}
+use Rattle.chunk_checks.proofs.Laws.{services-at}
 use Rattle.listing_puts.proofs.Laws.{after, ensembles-some, ensembles-none, length-ensembles, ensembles-stored}
 use Rattle.listing_puts.proofs.write_ensembles.Statement.{statement}
 use Rattle.listing_puts.proofs.write_ensembles.Tie as tie
@@ -45,44 +48,41 @@ write-ensemble-requires c κs =
 there : (c : tie.After-slice-known2 Inv-loop μ-loop) →
     let a = c .before .before .before .before .before .before .before .before .args in
     let l = c .before .before .before .before .before .loop in
-    let k = c .before .before .write-ensemble .result in
-    (after (l .at) (a .e) (a .s) k ≤ length (now (a .chunk))) × (ensemblesChecks (a .e) (a .s) (l .left - 1) (drop (after (l .at) (a .e) (a .s) k) (now (a .chunk))) ≡ Fine)
+    let xs = now (a .chunk) in
+    let k = getD xs (l .at + (3 + a .e)) 0 in
+    (after (l .at) (a .e) (a .s) k ≤ length xs) × (ensemblesChecks (a .e) (a .s) (l .left - 1) (drop (after (l .at) (a .e) (a .s) k) xs) ≡ Fine)
 there c =
     let a = c .before .before .before .before .before .before .before .before .args in
     let l = c .before .before .before .before .before .loop in
-    ensembles-some (now (a .chunk)) (l .at) (a .e) (a .s) (l .left) _ (l .inv .0) (c .before .before .before .before .loop-test .taken) (l .inv .1) (c .before .before .write-ensemble .ensures .0)
+    let xs = now (a .chunk) in
+    ensembles-some xs (l .at) (a .e) (a .s) (l .left) _ (l .inv .0) (c .before .before .before .before .loop-test .taken) (l .inv .1) (sym (services-at xs (l .at) (a .e) (a .s)))
+
+add-services : tie.Need-add-services Inv-loop μ-loop
+add-services c = omega arith
+
+add-services-2 : tie.Need-add-services-2 Inv-loop μ-loop
+add-services-2 c = omega (arith, there c .0)
+
+shared-slice-read-services : tie.Need-shared-slice-read-services Inv-loop μ-loop
+shared-slice-read-services c = omega (arith, there (c .before) .0)
+
+cast-services : tie.Need-cast-services Inv-loop μ-loop
+cast-services c = record { fits = lt-trans (c .shared-slice-known2 .given _ .fits) (lit< tt) }
 
 add-at : tie.Need-add-at Inv-loop μ-loop
 add-at c = omega arith
 
 add-at-2 : tie.Need-add-at-2 Inv-loop μ-loop
-add-at-2 c = omega arith
+add-at-2 c = omega (arith, there (c .before) .0)
 
 add-at-3 : tie.Need-add-at-3 Inv-loop μ-loop
 add-at-3 c = omega arith
 
 mul-at : tie.Need-mul-at Inv-loop μ-loop
-mul-at c = omega (arith, there c .0)
+mul-at c = omega (arith, there (c .before) .0)
 
 add-at-4 : tie.Need-add-at-4 Inv-loop μ-loop
-add-at-4 c = omega (arith, there c .0)
-
-mul-to : tie.Need-mul-to Inv-loop μ-loop
-mul-to c = omega (arith, there c .0)
-
-add-to : tie.Need-add-to Inv-loop μ-loop
-add-to c = omega (arith, there c .0)
-
-add-to-2 : tie.Need-add-to-2 Inv-loop μ-loop
-add-to-2 c =
-    let a = c .before .before .before .before .before .before .before .before .args in
-    let l = c .before .before .before .before .before .loop in
-    omega (
-      arith,
-      c .before .before .before .before .before .before .before .before .pre .1 .1,
-      l .inv .3,
-      length-ensembles (now (a .chunk)) (l .at) (a .e) (a .s) (l .left) _ (c .before .before .before .before .loop-test .taken) (c .before .before .write-ensemble .ensures .0),
-    )
+add-at-4 c = omega (arith, there (c .before) .0)
 
 sub-left : tie.Need-sub-left Inv-loop μ-loop
 sub-left c = omega arith
@@ -92,16 +92,17 @@ loop-less c = omega arith
 
 loop-again : tie.Need-loop-again Inv-loop μ-loop
 loop-again c =
-    let a = c .before .before .before .before .before .before .before .before .args in
-    let l = c .before .before .before .before .before .loop in
+    let a = c .before .before .before .before .before .before .before .before .before .args in
+    let l = c .before .before .before .before .before .before .loop in
     let xs = now (a .chunk) in
-    let some = c .before .before .before .before .loop-test .taken in
-    let is = c .before .before .write-ensemble .ensures .0 in (
-      there c .0,
-      there c .1,
+    let some = c .before .before .before .before .before .loop-test .taken in
+    let put = c .before .before .before .write-ensemble .ensures in
+    let is = sym (services-at xs (l .at) (a .e) (a .s)) in (
+      there (c .before) .0,
+      there (c .before) .1,
       omega arith,
-      omega (arith, l .inv .3, length-ensembles xs (l .at) (a .e) (a .s) (l .left) _ some is),
-      ensembles-stored xs (l .out) _ (l .at) (l .to) (a .e) (a .s) (l .left) _ some is (c .before .before .write-ensemble .ensures .1) ∙ l .inv .4,
+      omega (arith, put .0, l .inv .3, length-ensembles xs (l .at) (a .e) (a .s) (l .left) _ some is),
+      ensembles-stored xs (l .out) _ (l .at) (l .to) (a .e) (a .s) (l .left) _ _ some is (put .0) (put .1) ∙ l .inv .4,
     )
 
 same-length : tie.Need-same-length Inv-loop μ-loop
@@ -122,14 +123,15 @@ write-ensembles-spec =
     μ-loop
     loop-holds
     write-ensemble-requires
+    add-services
+    add-services-2
+    shared-slice-read-services
+    cast-services
     add-at
     add-at-2
     add-at-3
     mul-at
     add-at-4
-    mul-to
-    add-to
-    add-to-2
     sub-left
     loop-less
     loop-again
