@@ -2,7 +2,7 @@
 implementation's (gcc -O3), both for x86-64 and run the same way.
 
 Each case runs ours and plain by turns on one core, as many times as there are rounds, and prints three ratios, below 1.00 where ours is faster: of the
-medians, of the least times, and the middle half of the ratios of a pair. Then the log program's peak memory and time on a log and on ten of it in a row.
+medians, of the least times, and the middle half of the ratios of a pair. Then the programs' peak memory and time on a file and on ten of it in a row.
 What it is at goes to standard error."""
 import contextlib, os, re, signal, statistics, subprocess, sys, tempfile, time
 
@@ -10,7 +10,9 @@ here = os.path.dirname(os.path.dirname(os.path.abspath(__file__)))
 rounds, run = int(sys.argv[1]), sys.argv[2:]
 made = here + "/target/c/"
 os.sched_setaffinity(0, {min(os.sched_getaffinity(0))})
-logs = {"ours": made + "log", "plain": made + "plainlog"}
+sides = {"log": {"ours": made + "log", "plain": made + "plainlog"}, "unwrap": {"ours": made + "unwrap", "plain": made + "plainunwrap"}}
+makers = {"log": ("makelog", "segments"), "unwrap": ("maketunnel", "packets")}
+silent = {"stdout": subprocess.DEVNULL, "stderr": subprocess.DEVNULL}
 told = time.monotonic()
 
 
@@ -36,22 +38,23 @@ def started(*words, **streams):
         sys.exit(f"bench: {' '.join(words)} ended with status {p.returncode}")
 
 
-def make_log(what, segments, log):
-    with open(log, "wb") as f, started(made + "makelog", "--what", what, "--segments", str(segments), stdout=f) as p:
+def make_file(name, what, count, file):
+    maker, counted = makers[name]
+    with open(file, "wb") as f, started(made + maker, "--what", what, "--" + counted, str(count), stdout=f) as p:
         p.wait()
 
 
-def timed(program, log):
-    """Seconds of user and system time of a log program on a log."""
-    with open(log, "rb") as f, started(program, stdin=f, stdout=subprocess.DEVNULL) as p:
+def timed(program, file):
+    """Seconds of user and system time of a program on a file."""
+    with open(file, "rb") as f, started(program, stdin=f, **silent) as p:
         _, status, used = os.wait4(p.pid, 0)
         p.returncode = os.waitstatus_to_exitcode(status)
     return used.ru_utime + used.ru_stime
 
 
-def memory(program, log):
-    """The peak memory in KiB of a log program that has read a log and waits for more."""
-    with open(log, "rb") as f, started(program, stdin=subprocess.PIPE, stdout=subprocess.DEVNULL) as p:
+def memory(program, file):
+    """The peak memory in KiB of a program that has read a file and waits for more."""
+    with open(file, "rb") as f, started(program, stdin=subprocess.PIPE, **silent) as p:
         while block := f.read(1 << 20):
             p.stdin.write(block)
         time.sleep(0.5)
@@ -63,7 +66,8 @@ def memory(program, log):
 
 def calls(side, case):
     """Nanoseconds of a call."""
-    with started(f"{made}bench_{side}", side, case, "400000" if case.endswith("longest") else "3000000", stdout=subprocess.PIPE, text=True) as p:
+    rounds_of_it = "400000" if case.endswith("longest") else "1000000" if case.startswith("unwrap") else "3000000"
+    with started(f"{made}bench_{side}", side, case, rounds_of_it, stdout=subprocess.PIPE, text=True) as p:
         said = p.communicate()[0]
     return float(said.split()[4])  # "SIDE CASE N calls T ns each"
 
@@ -77,28 +81,44 @@ def compared(name, ours, plain):
     a, b = (statistics.median(x) for x in zip(*pairs))
     least = min(x for x, _ in pairs) / min(y for _, y in pairs)
     low, _, high = statistics.quantiles((x / y for x, y in pairs), n=4)
-    print(f"{name:34} {a / b:7.2f} {least:7.2f}   {low:.2f} to {high:.2f}", flush=True)
+    print(f"{name:38} {a / b:7.2f} {least:7.2f}   {low:.2f} to {high:.2f}", flush=True)
+
+
+def compare_programs(name, counts, room):
+    for what, count in counts:
+        file = f"{room}/{what}"
+        make_file(name, what, count, file)
+        compared(f"{name}, {count:,} {makers[name][1]}, {what}", lambda: timed(sides[name]["ours"], file), lambda: timed(sides[name]["plain"], file))
+        os.remove(file)
+
+
+def compare_lengths(name, count, room):
+    """Memory and time on a file and on ten of it in a row."""
+    made_one, one, ten = f"{room}/made", f"{room}/one", f"{room}/ten"
+    make_file(name, "mixed", count, made_one)
+    with open(made_one, "rb") as f:
+        file = f.read()
+    for many, to in (1, one), (10, ten):  # written in the same way, which tells on how fast they are read
+        with open(to, "wb") as f:
+            for _ in range(many):
+                f.write(file)
+    for side, program in sides[name].items():
+        tell(f"memory and time of {name} on ten files in a row, {side}")
+        longer = min(timed(program, ten) for _ in range(3)) / min(timed(program, one) for _ in range(3))
+        print(f"{name}, {side}: peak memory {memory(program, one)} KiB on {count:,} {makers[name][1]}, mixed, {memory(program, ten)} KiB on ten times these; "
+              f"time {longer:.1f} times as long", flush=True)
 
 
 def bench(room):
     print("both under the kit's emulator" if len(run) > 3 else "both on this processor")
-    print(f"{'case':34} medians   least   middle half of {rounds} pairs", flush=True)
-    for what, segments in (("mixed", 2000000), ("short", 1000000), ("longest", 400000), ("repeats", 2000000)):
-        log = f"{room}/{what}.log"
-        make_log(what, segments, log)
-        compared(f"log, {segments:,} segments, {what}", lambda: timed(logs["ours"], log), lambda: timed(logs["plain"], log))
-    for case in ("read-short", "read-longest", "read-mixed", "write-short", "write-longest", "write-mixed"):
+    print(f"{'case':38} medians   least   middle half of {rounds} pairs", flush=True)
+    compare_programs("log", (("mixed", 2000000), ("short", 1000000), ("longest", 400000), ("repeats", 2000000)), room)
+    compare_programs("unwrap", (("small", 100000), ("mixed", 100000), ("large", 100000), ("split", 500000)), room)
+    for case in ("read-short", "read-longest", "read-mixed", "write-short", "write-longest", "write-mixed",
+                 "unwrap-small", "unwrap-mixed", "unwrap-large", "unwrap-split"):
         compared(case, lambda: calls("ours", case), lambda: calls("plain", case))
-    one, ten = f"{room}/mixed.log", f"{room}/ten.log"
-    with open(one, "rb") as f:
-        log = f.read()
-    with open(ten, "wb") as f:
-        for _ in range(10):
-            f.write(log)
-    for side in ("ours", "plain"):
-        tell(f"memory and time on ten logs in a row, {side}")
-        longer = min(timed(logs[side], ten) for _ in range(3)) / min(timed(logs[side], one) for _ in range(3))
-        print(f"{side}: peak memory {memory(logs[side], one)} KiB on the mixed log, {memory(logs[side], ten)} KiB on ten of it; time {longer:.1f} times as long", flush=True)
+    compare_lengths("log", 2000000, room)
+    compare_lengths("unwrap", 60000, room)
 
 
 def interrupted(number, _):
@@ -108,8 +128,8 @@ def interrupted(number, _):
 for number in (signal.SIGHUP, signal.SIGINT, signal.SIGTERM):
     if signal.getsignal(number) is not signal.SIG_IGN:
         signal.signal(number, interrupted)
-seconds = 14 + 4 * rounds
+seconds = 20 + 5 * rounds
 long = f"{seconds} seconds" if seconds < 100 else f"{(seconds + 30) // 60} minutes"
-print(f"bench: 10 cases, {rounds} pairs each, then memory: about {long} on x86-64, longer under an emulator", file=sys.stderr, flush=True)
+print(f"bench: 18 cases, {rounds} pairs each, then memory: about {long} on x86-64, longer under an emulator", file=sys.stderr, flush=True)
 with tempfile.TemporaryDirectory(prefix="bench.", dir=made) as room:
     bench(room)

@@ -1,9 +1,10 @@
-/* Nanoseconds for one call of the reader or the writer.
+/* Nanoseconds for one call of the reader, the writer or the tunnel's reader.
    bench_calls ours|plain CASE ROUNDS
    Compiled with -DOURS for the one, without for the other; all else is the same. */
 #define _POSIX_C_SOURCE 199309L
 
 #include "make.h"
+#include "outer.h"
 
 #include <stdbool.h>
 #include <stdio.h>
@@ -11,9 +12,15 @@
 #include <string.h>
 #include <time.h>
 
-enum { LISTING = 1292, OUTPUT = 592, ITEMS = 1000 };
+enum {
+    LISTING = 1292,
+    OUTPUT = 592,
+    UNWRAPPED = 4096,
+    ITEMS = 1000,
+    STREAM = 200000 /* bytes of inner packets */
+};
 
-/* The length of the listing, or the number of segments; 0 where refused. */
+/* The length of the listing, the number of segments, or one more than the bytes stored; 0 where refused. */
 #ifdef OURS
 #include "lukasembo.h"
 #define WHO "ours"
@@ -31,8 +38,17 @@ static inline uint64_t write_one(const uint8_t *listing, size_t n, bool kind, ui
 
     return lukasembo_number(a) == LUKASEMBO_ACCEPTED ? lukasembo_segments(a) : 0;
 }
+
+static inline uint64_t unwrap_one(const uint8_t *outer, size_t n, uint8_t *output)
+{
+    static struct lukasembo_tunnel tunnel;
+    const uint64_t a = lukasembo_unwrap(&tunnel, outer, n, output, UNWRAPPED);
+
+    return lukasembo_number(a) == LUKASEMBO_ACCEPTED ? 1 + lukasembo_stored(a) : 0;
+}
 #else
 #include "plain.h"
+#include "tunnel.h"
 #define WHO "plain"
 
 static inline uint64_t read_one(const uint8_t *chunk, size_t n, uint8_t *buffer)
@@ -48,6 +64,14 @@ static inline uint64_t write_one(const uint8_t *listing, size_t n, bool kind, ui
 
     return a.number == 0 ? a.segments : 0;
 }
+
+static inline uint64_t unwrap_one(const uint8_t *outer, size_t n, uint8_t *output)
+{
+    static struct plain_tunnel tunnel;
+    const struct plain_unwrapped a = plain_unwrap(&tunnel, outer, n, output, UNWRAPPED);
+
+    return a.number == 0 ? 1 + a.stored : 0;
+}
 #endif
 
 struct item {
@@ -58,7 +82,7 @@ struct item {
 
 static struct item items[ITEMS];
 static size_t count;
-static uint8_t store[ITEMS * LISTING], buffer[LISTING];
+static uint8_t store[ITEMS * LISTING], buffer[UNWRAPPED];
 static volatile uint64_t sink;
 
 static void add(const uint8_t *bytes, size_t n, bool kind)
@@ -71,7 +95,24 @@ static void add(const uint8_t *bytes, size_t n, bool kind)
     items[count++].kind = kind;
 }
 
-/* The inputs of a case; answers 0 for an unknown one. */
+/* The outer packets of a stream that ends with a packet, one behind the other. When it begins again there is a gap, and no part. */
+static int make_outers(const char *name)
+{
+    static struct stream stream;
+    struct rng rng = {1};
+    uint8_t *to = store;
+
+    if (!stream_named(&rng, &stream, name, STREAM))
+        return 0;
+    for (count = 0; count < stream.payloads; count++) {
+        items[count].bytes = to;
+        items[count].n = stream_outer(&rng, &stream, count, (unsigned)count, to);
+        to += items[count].n;
+    }
+    return 1;
+}
+
+/* The inputs of a case of the reader or the writer; answers 0 for an unknown one. */
 static int make_items(const char *name, int *writer)
 {
     static const uint8_t sample[] = {0x00, 0x03, 0x01, 0x23, 0x01, 0x05, 0xE0, 0x83, 0x01, 0x0A, 0x01, 0xE6};
@@ -161,27 +202,58 @@ static uint64_t run_writer(unsigned long rounds)
     return sum;
 }
 
+static uint64_t run_unwrap(unsigned long rounds)
+{
+    uint64_t sum = 0;
+    size_t at = 0;
+
+    for (; rounds > 0; rounds--) {
+        const struct item *item = &items[at];
+        const uint64_t stored = unwrap_one(item->bytes, item->n, buffer);
+
+        sink = stored;
+        sum += stored + buffer[stored / 2];
+        if (++at == count)
+            at = 0;
+    }
+    return sum;
+}
+
+/* Whether each input is taken. */
+static int all_taken(int writer, int tunnel)
+{
+    size_t i;
+
+    for (i = 0; i < count; i++) {
+        const struct item *item = &items[i];
+
+        if ((tunnel ? unwrap_one(item->bytes, item->n, buffer)
+             : writer ? write_one(item->bytes, item->n, item->kind, buffer) : read_one(item->bytes, item->n, buffer)) == 0)
+            return 0;
+    }
+    return 1;
+}
+
 int main(int argc, char **argv)
 {
     struct timespec from, to;
     unsigned long rounds = argc == 4 ? strtoul(argv[3], NULL, 10) : 0;
+    const int tunnel = rounds != 0 && strncmp(argv[2], "unwrap-", 7) == 0;
     uint64_t sum;
-    size_t i;
-    int writer;
+    int writer = 0;
     double ns;
 
-    if (rounds == 0 || strcmp(argv[1], WHO) != 0 || !make_items(argv[2], &writer)) {
-        fprintf(stderr, "usage: bench_calls " WHO " read-short|read-longest|read-mixed|write-short|write-longest|write-mixed ROUNDS\n");
+    if (rounds == 0 || strcmp(argv[1], WHO) != 0 || !(tunnel ? make_outers(argv[2] + 7) : make_items(argv[2], &writer))) {
+        fprintf(stderr, "usage: bench_calls " WHO " read-short|read-longest|read-mixed|write-short|write-longest|write-mixed"
+                        "|unwrap-small|unwrap-mixed|unwrap-large|unwrap-split ROUNDS\n");
         return 2;
     }
-    for (i = 0; i < count; i++) /* none is refused */
-        if ((writer ? write_one(items[i].bytes, items[i].n, items[i].kind, buffer)
-                    : read_one(items[i].bytes, items[i].n, buffer)) == 0) {
-            fprintf(stderr, "bench_calls: an input is refused\n");
-            return 1;
-        }
+    if (!all_taken(writer, tunnel)) {
+        fprintf(stderr, "bench_calls: an input is refused\n");
+        return 1;
+    }
     clock_gettime(CLOCK_MONOTONIC, &from);
-    sum = writer ? run_writer(rounds) : run_reader(rounds);
+    sum = tunnel ? run_unwrap(rounds) : writer ? run_writer(rounds) : run_reader(rounds);
     clock_gettime(CLOCK_MONOTONIC, &to);
     ns = (double)(to.tv_sec - from.tv_sec) * 1e9 + (double)(to.tv_nsec - from.tv_nsec);
     printf("%s %s %lu calls %.2f ns each (sum %llu)\n", WHO, argv[2], rounds, ns / (double)rounds, (unsigned long long)sum);

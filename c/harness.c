@@ -1,32 +1,16 @@
 /* Gives the same inputs to both implementations and compares every answer and every byte.
    harness [--seed N] [--calls M] [--plant ours|plain] [--keep FOLDER], or harness --replay FILE
    The input of a difference is written to the folder. How far it has come goes to standard error. */
-#define _DEFAULT_SOURCE
-
+#include "lent.h"
 #include "lukasembo.h"
 #include "make.h"
 #include "plain.h"
 
-#include <signal.h>
 #include <stdio.h>
 #include <stdlib.h>
 #include <string.h>
-#include <sys/mman.h>
-#include <time.h>
-#include <unistd.h>
 
-enum { OURS, PLAIN, SIDES };
 enum { INPUT, BUFFER, MEMORIES };
-enum { MIDDLE, AT_START, AT_END, PLACES }; /* the latter two: right after, right before memory that can't be touched */
-enum {
-    GUARD = 64,             /* bytes watched on each side of a memory */
-    LONG = 65536,           /* lengths that 16 bits don't hold */
-    BUFFER_ROOM = LONG + 4096,
-    PATTERNS = LONG,        /* places in the pattern at which a buffer's may begin */
-    PLANT_EVERY = 100000,
-    TELL_AFTER = 3,         /* seconds from one line of progress to the next */
-    NOWHERE = -GUARD - 1
-};
 
 /* The phases, the reader's first, and how many of 1,000 calls each has. */
 enum phase {
@@ -44,49 +28,25 @@ struct call {
     int writer;      /* 0: the reader */
     uint8_t kind;    /* for the writer */
     uint8_t planted; /* 0, or 1 + the side whose result was made wrong */
-    uint8_t place[MEMORIES], shift[MEMORIES];
-    uint32_t pattern; /* where in the pattern the buffer's bytes begin */
+    struct spot spot[MEMORIES];
+    size_t pattern; /* where in the pattern the buffer's bytes begin */
     size_t n, room;
     const uint8_t *input;
     const uint64_t *want;      /* the answer, if it is known */
     const uint8_t *want_bytes; /* and what it writes */
 };
 
-/* A memory as lent to one side: its region, its start, and the watched bytes around it. */
-struct lent {
-    uint8_t *region, *at;
-    size_t before, after;
-};
-
 static struct rng rng;
 static struct make_list list;
 static struct made made;
-static uint8_t pattern[PATTERNS + BUFFER_ROOM + 2 * GUARD];
 static struct lent lent[SIDES][MEMORIES];
-static size_t region_size[MEMORIES];
-
-static uint64_t calls, limit, seed, seen[2][256], seen_unknown, next_plant;
-static int plant; /* 0, or 1 + the side */
-static const char *keep = ".";
+static uint64_t seen[2][256], seen_unknown;
 
 /* The call at work, for the report. */
 static struct call now;
 static uint64_t answer[SIDES];
-static volatile sig_atomic_t at_work = -1; /* which side */
 
 /* ---- The report ---- */
-
-static void print_hex(const uint8_t *from, size_t n)
-{
-    const size_t most = 4096;
-    size_t i;
-
-    for (i = 0; i < n && i < most; i++)
-        printf("%02x", from[i]);
-    if (n > most)
-        printf("... (%zu bytes)", n);
-    printf("\n");
-}
 
 static void print_answer(const char *who, uint64_t a)
 {
@@ -97,93 +57,34 @@ static void print_answer(const char *who, uint64_t a)
         printf(", kind %u, minor %u, length %zu\n", (unsigned)lukasembo_kind(a), lukasembo_minor(a), lukasembo_length(a));
 }
 
-static void put_number(FILE *f, uint64_t x)
+const char kept_mark[5] = "LKH1", kept_word[] = "call";
+
+/* Eight bytes, three numbers of 8 bytes (big-endian), the input. */
+void put_call(FILE *f)
 {
-    int i;
-
-    for (i = 56; i >= 0; i -= 8)
-        putc((int)(x >> i & 0xFF), f);
-}
-
-/* "LKH1", eight bytes, three numbers of 8 bytes (big-endian), the input. */
-static void save(void)
-{
-    char name[4096];
-    FILE *f;
-
-    snprintf(name, sizeof name, "%s/failure-seed-%llu-call-%llu.bin", keep, (unsigned long long)seed, (unsigned long long)calls);
-    f = fopen(name, "wb");
-    if (f == NULL) {
-        printf("%s can't be written\n", name);
-        return;
-    }
-    fwrite("LKH1", 1, 4, f);
     putc(now.phase, f);
     putc(now.writer, f);
     putc(now.kind, f);
     putc(now.planted, f);
-    putc(now.place[INPUT], f);
-    putc(now.shift[INPUT], f);
-    putc(now.place[BUFFER], f);
-    putc(now.shift[BUFFER], f);
+    put_spots(f, now.spot, MEMORIES);
     put_number(f, now.pattern);
     put_number(f, now.room);
     put_number(f, now.n);
     fwrite(now.input, 1, now.n, f);
-    if (fclose(f) == 0)
-        printf("it is kept: c/harness --replay %s\n", name);
 }
 
-static void print_call(void)
+void print_call(void)
 {
-    static const char *const place_name[PLACES] = {"between guard bytes", "at the start of its page", "at the end of its page"};
-
     printf("phase %s, %s", phase_name[now.phase], now.writer ? "writer" : "reader");
     if (now.writer)
         printf(", kind %u", now.kind);
-    printf("; input %zu bytes, %s; buffer %zu bytes, %s\n", now.n, place_name[now.place[INPUT]], now.room,
-           place_name[now.place[BUFFER]]);
+    printf("; input %zu bytes, %s; buffer %zu bytes, %s\n", now.n, place_name(now.spot[INPUT]), now.room,
+           place_name(now.spot[BUFFER]));
     printf("input  ");
     print_hex(now.input, now.n);
 }
 
 /* ---- One call ---- */
-
-/* A region with memory that can't be touched before and after it. */
-static uint8_t *new_region(size_t size)
-{
-    const size_t page = (size_t)sysconf(_SC_PAGESIZE);
-    uint8_t *p = mmap(NULL, size + 2 * page, PROT_READ | PROT_WRITE, MAP_PRIVATE | MAP_ANONYMOUS, -1, 0);
-
-    if (p == MAP_FAILED || mprotect(p, page, PROT_NONE) != 0 || mprotect(p + page + size, page, PROT_NONE) != 0) {
-        fprintf(stderr, "harness: no memory\n");
-        exit(2);
-    }
-    return p + page;
-}
-
-static void new_regions(void)
-{
-    const size_t page = (size_t)sysconf(_SC_PAGESIZE);
-    struct rng r = {1};
-    int side, m;
-
-    region_size[INPUT] = (MAKE_ROOM + 4 * GUARD + page - 1) / page * page;
-    region_size[BUFFER] = (BUFFER_ROOM + 4 * GUARD + page - 1) / page * page;
-    for (side = 0; side < SIDES; side++)
-        for (m = 0; m < MEMORIES; m++)
-            lent[side][m].region = new_region(region_size[m]);
-    rng_fill(&r, pattern, sizeof pattern);
-}
-
-static void lay(struct lent *to, int m, size_t n)
-{
-    const size_t size = region_size[m];
-
-    to->at = to->region + (now.place[m] == AT_START ? 0 : now.place[m] == AT_END ? size - n : GUARD + (size_t)now.shift[m]);
-    to->before = now.place[m] == AT_START ? 0 : GUARD;
-    to->after = now.place[m] == AT_END ? 0 : GUARD;
-}
 
 static uint64_t call_ours(const uint8_t *input, uint8_t *buffer)
 {
@@ -264,23 +165,10 @@ static int make_wrong(int side, uint8_t *to)
     return 0;
 }
 
-/* Where the two begin to differ, or n. */
-static size_t same(const uint8_t *a, const uint8_t *b, size_t n)
-{
-    size_t i;
-
-    if (memcmp(a, b, n) == 0)
-        return n;
-    for (i = 0; a[i] == b[i]; i++)
-        ;
-    return i;
-}
-
 /* What is wrong, or null; *at is the byte, from the start of the buffer, or NOWHERE. */
 static const char *compare(long *at)
 {
-    const struct lent *o = &lent[OURS][BUFFER], *p = &lent[PLAIN][BUFFER];
-    const size_t all = o->before + now.room + o->after;
+    const struct lent *o = &lent[OURS][BUFFER];
     const uint64_t a = answer[OURS];
     const size_t written = written_by(a);
     size_t i;
@@ -289,27 +177,17 @@ static const char *compare(long *at)
     *at = NOWHERE;
     if (a != answer[PLAIN])
         return "the answers differ";
-    i = same(o->at - o->before, p->at - p->before, all);
-    if (i < all) {
-        *at = (long)i - (long)o->before;
+    *at = lent_differ(o, &lent[PLAIN][BUFFER], now.room);
+    if (*at != NOWHERE)
         return *at < 0 || *at >= (long)now.room ? "the bytes around the buffers differ" : "the buffers differ";
-    }
     if (written > now.room)
         return "both answer more than the buffer holds";
-    i = same(o->at - o->before, pattern + now.pattern, o->before);
-    if (i == o->before)
-        i += written + same(o->at + written, pattern + now.pattern + i + written, all - i - written);
-    if (i < all) {
-        *at = (long)i - (long)o->before;
+    *at = lent_changed(o, now.pattern, now.room, written);
+    if (*at != NOWHERE)
         return "both changed a byte that should stay";
-    }
-    for (side = 0; side < SIDES; side++) {
-        const struct lent *in = &lent[side][INPUT];
-
-        if (memcmp(in->at - in->before, pattern, in->before) != 0 || memcmp(in->at, now.input, now.n) != 0
-            || memcmp(in->at + now.n, pattern + in->before, in->after) != 0)
+    for (side = 0; side < SIDES; side++)
+        if (!lent_same(&lent[side][INPUT], now.input, now.n))
             return side == OURS ? "ours changed its input" : "plain changed its input";
-    }
     if (now.want != NULL && *now.want != a)
         return "both answer other than wanted";
     i = now.want_bytes == NULL ? written : same(o->at, now.want_bytes, written);
@@ -325,15 +203,8 @@ static const char *run(long *at)
     int side;
 
     for (side = 0; side < SIDES; side++) {
-        struct lent *in = &lent[side][INPUT], *out = &lent[side][BUFFER];
-
-        lay(in, INPUT, now.n);
-        lay(out, BUFFER, now.room);
-        memcpy(in->at - in->before, pattern, in->before);
-        if (now.n > 0)
-            memcpy(in->at, now.input, now.n);
-        memcpy(in->at + now.n, pattern + in->before, in->after);
-        memcpy(out->at - out->before, pattern + now.pattern, out->before + now.room + out->after);
+        lent_lay(&lent[side][INPUT], now.spot[INPUT], now.input, now.n);
+        lent_fill(&lent[side][BUFFER], now.spot[BUFFER], now.pattern, now.room);
     }
     at_work = OURS;
     answer[OURS] = call_ours(lent[OURS][INPUT].at, lent[OURS][BUFFER].at);
@@ -342,19 +213,16 @@ static const char *run(long *at)
     at_work = -1;
     if (now.planted != 0)
         make_wrong(now.planted - 1, lent[now.planted - 1][BUFFER].at);
-    else if (plant != 0 && calls >= next_plant && make_wrong(plant - 1, lent[plant - 1][BUFFER].at)) {
+    else if (plant_due() && make_wrong(plant - 1, lent[plant - 1][BUFFER].at)) {
         now.planted = (uint8_t)plant;
-        next_plant += PLANT_EVERY;
+        plant_done();
     }
     return compare(at);
 }
 
 static void report(const char *wrong, long at)
 {
-    printf("\nA DIFFERENCE at call %llu: %s\n", (unsigned long long)calls, wrong); /* 0 in a replay */
-    if (now.planted != 0)
-        printf("(planted: %s)\n", now.planted == 1 + OURS ? "ours" : "plain");
-    print_call();
+    print_difference(wrong, now.planted);
     if (now.want != NULL)
         print_answer("wanted", *now.want);
     print_answer("ours", answer[OURS]);
@@ -362,65 +230,6 @@ static void report(const char *wrong, long at)
     if (at != NOWHERE)
         printf("byte %ld from the start of the buffer: ours %02x, plain %02x\n", at, lent[OURS][BUFFER].at[at],
                lent[PLAIN][BUFFER].at[at]);
-}
-
-/* A call that touches what was not lent to it, or breaks off. */
-static void on_signal(int sig)
-{
-    printf("\nA DIFFERENCE at call %llu: signal %d in %s\n", (unsigned long long)calls, sig,
-           at_work == OURS ? "ours" : at_work == PLAIN ? "plain" : "the harness");
-    if (at_work >= 0) {
-        print_call();
-        if (calls > 0) /* it is 0 in a replay */
-            save();
-    }
-    fflush(stdout);
-    _exit(1);
-}
-
-static void watch_signals(void)
-{
-    static const int signals[] = {SIGSEGV, SIGBUS, SIGILL, SIGFPE, SIGABRT};
-    static uint8_t other_stack[65536];
-    stack_t stack;
-    struct sigaction action;
-    size_t i;
-
-    memset(&stack, 0, sizeof stack);
-    stack.ss_sp = other_stack;
-    stack.ss_size = sizeof other_stack;
-    sigaltstack(&stack, NULL);
-    memset(&action, 0, sizeof action);
-    action.sa_handler = on_signal;
-    action.sa_flags = SA_ONSTACK;
-    for (i = 0; i < sizeof signals / sizeof *signals; i++)
-        sigaction(signals[i], &action, NULL);
-}
-
-static void print_grouped(FILE *f, uint64_t x)
-{
-    if (x >= 1000) {
-        print_grouped(f, x / 1000);
-        fprintf(f, ",%03u", (unsigned)(x % 1000));
-    } else
-        fprintf(f, "%u", (unsigned)x);
-}
-
-static void tell(void)
-{
-    static time_t told;
-    const time_t at = time(NULL);
-
-    if (told == 0)
-        told = at;
-    if (at - told < TELL_AFTER)
-        return;
-    told = at;
-    fprintf(stderr, "harness: calls ");
-    print_grouped(stderr, calls);
-    fprintf(stderr, " of ");
-    print_grouped(stderr, limit);
-    fprintf(stderr, "\n");
 }
 
 /* Both sides, once; now has the phase, the call, its kind, input and room. */
@@ -431,23 +240,16 @@ static void hold(void)
     long at;
     int m;
 
-    if (calls == limit)
+    if (!next_call())
         return;
-    calls++;
-    if (calls % 10000 == 0)
-        tell();
-    for (m = 0; m < MEMORIES; m++) {
-        const unsigned d = (unsigned)(x >> 16 * m);
-
-        now.place[m] = (uint8_t)((d & 3) == 3 ? AT_END : d & 3);
-        now.shift[m] = (uint8_t)(d >> 2 & (GUARD - 1));
-    }
-    now.pattern = (uint32_t)(x >> 48) % PATTERNS;
+    for (m = 0; m < MEMORIES; m++)
+        now.spot[m] = any_spot((unsigned)(x >> 16 * m));
+    now.pattern = (size_t)(x >> 48) % PATTERNS;
     now.planted = 0;
     wrong = run(&at);
     if (wrong != NULL) {
         report(wrong, at);
-        save();
+        keep_call();
         exit(1);
     }
     seen[now.writer][answer[OURS] & 0xFF]++;
@@ -457,31 +259,13 @@ static void hold(void)
     now.want_bytes = NULL;
 }
 
-/* Most often exactly enough; sometimes longer, a byte too short, 0, or shorter still. */
-static size_t any_room(size_t enough)
-{
-    const unsigned d = rng_below(&rng, 64);
-
-    if (d < 2)
-        return enough - 1;
-    if (d == 2)
-        return 0;
-    if (d == 3)
-        return rng_below(&rng, (unsigned)enough);
-    if (d == 4 && rng_once_in(&rng, 64))
-        return LONG + rng_below(&rng, 2048);
-    if (d < 16)
-        return enough + 1 + rng_below(&rng, d < 8 ? 4 : 300);
-    return enough;
-}
-
 static void hold_read(const uint8_t *chunk, size_t n)
 {
     now.writer = 0;
     now.kind = 0;
     now.input = chunk;
     now.n = n;
-    now.room = any_room(LUKASEMBO_LISTING);
+    now.room = any_room(&rng, LUKASEMBO_LISTING);
     hold();
 }
 
@@ -491,7 +275,7 @@ static void hold_write(const uint8_t *listing, size_t n, unsigned kind)
     now.kind = (uint8_t)kind;
     now.input = listing;
     now.n = n;
-    now.room = any_room(LUKASEMBO_OUTPUT);
+    now.room = any_room(&rng, LUKASEMBO_OUTPUT);
     hold();
 }
 
@@ -580,7 +364,7 @@ static void sound(uint64_t i)
     now.kind = 0;
     now.input = made.bytes;
     now.n = made.n;
-    now.room = any_room(LUKASEMBO_LISTING);
+    now.room = any_room(&rng, LUKASEMBO_LISTING);
     if (made.n > MAKE_CHUNK)
         want = 8;
     if (now.room < LUKASEMBO_LISTING)
@@ -651,7 +435,7 @@ static void hold_written(unsigned kind)
     now.kind = (uint8_t)kind;
     now.input = made.bytes;
     now.n = made.n;
-    now.room = any_room(LUKASEMBO_OUTPUT);
+    now.room = any_room(&rng, LUKASEMBO_OUTPUT);
     if (now.room < LUKASEMBO_OUTPUT)
         want = 1;
     now.want = &want;
@@ -881,49 +665,27 @@ static int run_all(void)
     return plant != 0 ? 2 : 0;
 }
 
-static uint64_t get_number(FILE *f)
-{
-    uint64_t x = 0;
-    int i;
-
-    for (i = 0; i < 8; i++)
-        x = x << 8 | (uint64_t)(getc(f) & 0xFF);
-    return x;
-}
-
 static int replay(const char *name)
 {
-    FILE *f = fopen(name, "rb");
-    uint8_t head[12];
+    FILE *f = open_kept(name);
+    uint8_t head[4];
     const char *wrong;
-    uint64_t start;
     long at;
     int side;
 
-    if (f == NULL || fread(head, 1, 12, f) != 12 || memcmp(head, "LKH1", 4) != 0) {
-        fprintf(stderr, "harness: %s is not a call to replay\n", name);
-        return 2;
-    }
-    now.phase = head[4];
-    now.writer = head[5];
-    now.kind = head[6];
-    now.planted = head[7];
-    now.place[INPUT] = head[8];
-    now.shift[INPUT] = head[9];
-    now.place[BUFFER] = head[10];
-    now.shift[BUFFER] = head[11];
-    start = get_number(f);
+    if (f == NULL || fread(head, 1, sizeof head, f) != sizeof head || !get_spots(f, now.spot, MEMORIES))
+        return not_kept(name, f);
+    now.phase = head[0];
+    now.writer = head[1];
+    now.kind = head[2];
+    now.planted = head[3];
+    now.pattern = (size_t)get_number(f);
     now.room = (size_t)get_number(f);
     now.n = (size_t)get_number(f);
-    now.pattern = (uint32_t)start;
     now.input = made.bytes;
-    if (now.phase >= PHASES || now.writer > 1 || now.planted > SIDES || head[8] >= PLACES || head[10] >= PLACES
-        || head[9] >= GUARD || head[11] >= GUARD || start >= PATTERNS || now.room > BUFFER_ROOM || now.n > MAKE_ROOM
-        || fread(made.bytes, 1, now.n, f) != now.n || getc(f) != EOF) {
-        fprintf(stderr, "harness: %s is not a call to replay\n", name);
-        fclose(f);
-        return 2;
-    }
+    if (now.phase >= PHASES || now.writer > 1 || now.planted > SIDES || now.pattern >= PATTERNS || now.room > BUFFER_ROOM || now.n > MAKE_ROOM
+        || fread(made.bytes, 1, now.n, f) != now.n || getc(f) != EOF)
+        return not_kept(name, f);
     fclose(f);
     wrong = run(&at);
     if (wrong != NULL)
@@ -945,32 +707,11 @@ static int replay(const char *name)
 
 int main(int argc, char **argv)
 {
-    const char *file = NULL;
-    int i;
+    int side;
 
-    limit = 6000000;
-    seed = 1;
-    for (i = 1; i + 1 < argc; i += 2)
-        if (strcmp(argv[i], "--seed") == 0)
-            seed = strtoull(argv[i + 1], NULL, 10);
-        else if (strcmp(argv[i], "--calls") == 0)
-            limit = strtoull(argv[i + 1], NULL, 10);
-        else if (strcmp(argv[i], "--replay") == 0)
-            file = argv[i + 1];
-        else if (strcmp(argv[i], "--keep") == 0)
-            keep = argv[i + 1];
-        else if (strcmp(argv[i], "--plant") == 0 && strcmp(argv[i + 1], "ours") == 0)
-            plant = 1 + OURS;
-        else if (strcmp(argv[i], "--plant") == 0 && strcmp(argv[i + 1], "plain") == 0)
-            plant = 1 + PLAIN;
-        else
-            break;
-    if (i != argc) {
-        fprintf(stderr, "usage: harness [--seed N] [--calls M] [--plant ours|plain] [--keep FOLDER] | --replay FILE\n");
-        return 2;
+    for (side = 0; side < SIDES; side++) {
+        lent_new(&lent[side][INPUT], MAKE_ROOM);
+        lent_new(&lent[side][BUFFER], BUFFER_ROOM);
     }
-    next_plant = PLANT_EVERY;
-    new_regions();
-    watch_signals();
-    return file != NULL ? replay(file) : run_all();
+    return harness(argc, argv, 6000000, run_all, replay);
 }

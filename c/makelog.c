@@ -1,10 +1,7 @@
 /* Writes a log to standard output.
    makelog [--seed N] [--segments M] [--what mixed|short|longest|repeats] [--cut] [--unknown] */
 #include "make.h"
-
-#include <stdio.h>
-#include <stdlib.h>
-#include <string.h>
+#include "words.h"
 
 static struct rng rng;
 static struct make_list list;
@@ -259,43 +256,21 @@ static void put_unknown(void)
 
 int main(int argc, char **argv)
 {
-    const char *what = "mixed";
-    int i, cut = 0, unknown = 0;
+    struct words words = {1, 100000, "mixed", 0, 0};
 
-    rng.state = 1;
-    left = 100000;
-    for (i = 1; i < argc; i++)
-        if (strcmp(argv[i], "--cut") == 0)
-            cut = 1;
-        else if (strcmp(argv[i], "--unknown") == 0)
-            unknown = 1;
-        else if (i + 1 < argc && strcmp(argv[i], "--seed") == 0)
-            rng.state = strtoull(argv[++i], NULL, 10);
-        else if (i + 1 < argc && strcmp(argv[i], "--segments") == 0)
-            left = strtoul(argv[++i], NULL, 10);
-        else if (i + 1 < argc && strcmp(argv[i], "--what") == 0)
-            what = argv[++i];
-        else
-            break;
-    if (i < argc || (cut && unknown)
-        || (strcmp(what, "mixed") != 0 && strcmp(what, "short") != 0 && strcmp(what, "longest") != 0
-            && strcmp(what, "repeats") != 0)) {
-        fprintf(stderr, "usage: makelog [--seed N] [--segments M] [--what mixed|short|longest|repeats] [--cut | --unknown]\n");
+    if (!read_words(argc, argv, "makelog", "--segments", "mixed|short|longest|repeats", &words))
         return 2;
-    }
+    rng.state = words.seed;
+    left = words.count;
     while (left > 0)
-        switch (what[0]) {
+        switch (words.what[0]) {
         case 'm': gathering(); break;
         case 'r': repeats(); break;
-        default: pair(what[0] == 'l'); break;
+        default: pair(words.what[0] == 'l'); break;
         }
-    if (cut)
+    if (words.cut)
         put_cut();
-    if (unknown)
+    if (words.unknown)
         put_unknown();
-    if (fflush(stdout) != 0 || ferror(stdout)) {
-        fprintf(stderr, "makelog: the log can't be written\n");
-        return 2;
-    }
-    return 0;
+    return all_written("makelog");
 }

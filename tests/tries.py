@@ -51,10 +51,10 @@ def end(process):
     process.wait()
 
 
-def tried(command, given=b"", stdin=subprocess.PIPE, stdout=subprocess.PIPE, wait=30, cwd=HERE, **how):
+def tried(command, given=b"", stdin=subprocess.PIPE, stdout=subprocess.PIPE, stderr=subprocess.PIPE, wait=30, cwd=HERE, **how):
     """What comes of a command, words or a line for bash: its exit status, standard output and standard error."""
     words = ["bash", "-c", command] if isinstance(command, str) else command
-    process = subprocess.Popen(words, stdin=stdin, stdout=stdout, stderr=subprocess.PIPE, cwd=cwd, start_new_session=True, **how)
+    process = subprocess.Popen(words, stdin=stdin, stdout=stdout, stderr=stderr, cwd=cwd, start_new_session=True, **how)
     try:
         out, err = process.communicate(given if stdin == subprocess.PIPE else None, wait)
         status = process.returncode
@@ -64,13 +64,13 @@ def tried(command, given=b"", stdin=subprocess.PIPE, stdout=subprocess.PIPE, wai
         status = f"none in {wait} s"
     finally:
         end(process)
-    return status, (out or b"").decode("latin-1"), err.decode("latin-1")
+    return status, (out or b"").decode("latin-1"), (err or b"").decode("latin-1")
 
 
 @contextlib.contextmanager
-def begun(*words):
+def begun(*words, stderr=subprocess.DEVNULL):
     """A command that goes on while it is given more."""
-    process = subprocess.Popen(words, cwd=HERE, stdin=subprocess.PIPE, stdout=subprocess.PIPE, stderr=subprocess.DEVNULL, bufsize=0, start_new_session=True)
+    process = subprocess.Popen(words, cwd=HERE, stdin=subprocess.PIPE, stdout=subprocess.PIPE, stderr=stderr, bufsize=0, start_new_session=True)
     try:
         yield process
     finally:
@@ -81,15 +81,15 @@ def begun(*words):
 
 def heard(process, expected, seconds=2):
     """What the command prints, until that is as expected; with None, until no process has its output open."""
-    text, until = b"", time.monotonic() + seconds
-    while text.decode() != expected:
+    text, until = "", time.monotonic() + seconds
+    while text != expected:
         if not select.select([process.stdout], [], [], max(0, until - time.monotonic()))[0]:
-            return f"{text.decode()}(and no more in {seconds} s)"
+            return f"{text}(and no more in {seconds} s)"
         more = os.read(process.stdout.fileno(), 65536)
         if not more:
             break
-        text += more
-    return text.decode()
+        text += more.decode("latin-1")
+    return text
 
 
 def script(path, text):
@@ -132,6 +132,13 @@ def hangs_up(data):
     os.write(theirs, data)
     os.close(theirs)
     return ours,
+
+
+def gone():
+    """A pipe to write to, whose reader has gone away."""
+    ours, theirs = os.pipe()
+    os.close(ours)
+    return theirs
 
 
 def full(room):

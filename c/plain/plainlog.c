@@ -1,71 +1,15 @@
 /* The log program: a log on standard input, its lines on standard output. */
 #define _POSIX_C_SOURCE 200809L
 
+#include "output.h"
 #include "plain.h"
 
-#include <errno.h>
 #include <signal.h>
-#include <string.h>
-#include <unistd.h>
 
 enum {
-    BLOCK = 65536,
     RECORD = 2 + PLAIN_SEGMENT,      /* the longest record: SG and a segment */
     LINES = 64 + 2 * PLAIN_LISTING   /* more than one record ever prints */
 };
-
-/* Output gathered to blocks. Once a block can't be written, failed is 1. */
-struct output {
-    size_t used;
-    int failed;
-    uint8_t bytes[BLOCK];
-};
-
-static void flush(struct output *out)
-{
-    size_t done = 0;
-
-    while (!out->failed && done < out->used) {
-        ssize_t wrote = write(STDOUT_FILENO, out->bytes + done, out->used - done);
-
-        if (wrote > 0)
-            done += (size_t)wrote;
-        else if (wrote == 0 || errno != EINTR)
-            out->failed = 1;
-    }
-    out->used = 0;
-}
-
-/* The three below need room that make_room has seen to. */
-
-static void make_room(struct output *out)
-{
-    if (BLOCK - out->used < LINES)
-        flush(out);
-}
-
-static void put_text(struct output *out, const char *text)
-{
-    size_t n = strlen(text);
-
-    memcpy(out->bytes + out->used, text, n);
-    out->used += n;
-}
-
-/* The number, then the end of the line. */
-static void put_number(struct output *out, size_t number)
-{
-    uint8_t digits[24];
-    size_t at = sizeof digits;
-
-    digits[--at] = '\n';
-    do {
-        digits[--at] = (uint8_t)('0' + number % 10);
-        number /= 10;
-    } while (number > 0);
-    memcpy(out->bytes + out->used, digits + at, sizeof digits - at);
-    out->used += sizeof digits - at;
-}
 
 static uint8_t hex_digit(uint8_t value)
 {
@@ -111,7 +55,7 @@ static void do_frame(struct output *out, struct table *table)
         return;
     }
     put_text(out, "FR ");
-    put_number(out, table->desk.length[1]);
+    put_number(out, table->desk.length[1], '\n');
     put_listing(out, table, 1);
 }
 
@@ -123,14 +67,14 @@ static void do_segment(struct output *out, struct table *table, const uint8_t *s
 
     if (answer.number != 0) {
         put_text(out, "SG ");
-        put_number(out, (size_t)answer.number);
+        put_number(out, (size_t)answer.number, '\n');
     } else if (answer.listed) {
         put_text(out, answer.kind == 1 ? "SG 0 list this " : "SG 0 list next ");
-        put_number(out, answer.length);
+        put_number(out, answer.length, '\n');
         put_listing(out, table, answer.kind);
     } else {
         put_text(out, "SG 0 missing ");
-        put_number(out, answer.missing);
+        put_number(out, answer.missing, '\n');
     }
 }
 
@@ -144,7 +88,7 @@ static size_t take_records(struct output *out, struct table *table,
     while (n - at >= 2 && !out->failed) {
         const uint8_t a = log[at], b = log[at + 1];
 
-        make_room(out);
+        make_room(out, BLOCK, LINES);
         if (a == 'S' && b == 'G') {
             if (n - at < RECORD)
                 break;
@@ -175,8 +119,9 @@ int main(void)
 
     /* A reader of our output that has gone is a write that fails, no more. */
     signal(SIGPIPE, SIG_IGN);
-    out.used = 0;
+    out.to = STDOUT_FILENO;
     out.failed = 0;
+    out.used = 0;
     plain_fresh(&table.desk);
 
     while (!unknown && !out.failed) {
@@ -194,7 +139,7 @@ int main(void)
         kept = n - taken;
         memmove(log, log + taken, kept);
     }
-    make_room(&out);
+    make_room(&out, BLOCK, LINES);
     put_text(&out, unknown || kept > 0 ? "END 15\n" : "END 0\n");
     flush(&out);
     return 0;

@@ -3,23 +3,8 @@
    what differs. */
 #define _POSIX_C_SOURCE 200809L
 
+#include "check.h"
 #include "plain.h"
-
-#include <stdio.h>
-#include <stdlib.h>
-#include <string.h>
-
-#define LEN(a) (sizeof(a) / sizeof *(a))
-#define CHECK(c) check((c) != 0, #c, __LINE__)
-
-static unsigned long differ, checked;
-
-static void check(int good, const char *what, int line)
-{
-    checked++;
-    if (!good && differ++ < 20)
-        printf("line %d differs: %s\n", line, what);
-}
 
 static uint32_t seed = 1;
 
@@ -40,14 +25,6 @@ static const uint8_t list1[] = {0x54, 0x53, 0x01, 0x23, 0x01, 0x45, 0x4E, 0x05, 
                                 0x53, 0x56, 0x0A, 0x01, 0x00, 0x03, 0x00};
 static const uint8_t list3[] = {0x54, 0x53, 0x01, 0x23, 0x00};
 static const uint8_t list_unknown[] = {0x54, 0x53, 0x01, 0x23, 0x01, 0x45, 0x55, 0x05, 0x01};
-
-static int all(const uint8_t *p, size_t n, uint8_t value)
-{
-    while (n > 0)
-        if (p[--n] != value)
-            return 0;
-    return 1;
-}
 
 /* Reads from memory of exactly n bytes; the listing expected, or a number. */
 static struct plain_read exact_read(const uint8_t *chunk, size_t n, uint8_t *buffer)
@@ -1001,17 +978,8 @@ static void model_tests(void)
 
 /* ---- The log program ---- */
 
-static const char *program;
-static uint8_t log_in[400000];
-static size_t log_n;
-static char want[4000000], got[4000001];
+static char want[4000000];
 static size_t want_n;
-
-static void add(const void *bytes, size_t n)
-{
-    memcpy(log_in + log_n, bytes, n);
-    log_n += n;
-}
 
 static void expect(const char *text)
 {
@@ -1034,12 +1002,12 @@ static void expect_log(void)
 
     rig_fresh(&g);
     want_n = 0;
-    while (at < log_n) {
-        if (log_n - at >= 2 && memcmp(log_in + at, "GA", 2) == 0) {
+    while (at < input_n) {
+        if (input_n - at >= 2 && memcmp(input + at, "GA", 2) == 0) {
             plain_gathering(&g.desk);
             expect("GA\n");
             at += 2;
-        } else if (log_n - at >= 2 && memcmp(log_in + at, "FR", 2) == 0) {
+        } else if (input_n - at >= 2 && memcmp(input + at, "FR", 2) == 0) {
             plain_frame(&g.desk);
             p = shown(&g, 1, &n);
             if (n == 0)
@@ -1049,8 +1017,8 @@ static void expect_log(void)
                 expect_hex(p, n);
             }
             at += 2;
-        } else if (log_n - at >= 39 && memcmp(log_in + at, "SG", 2) == 0) {
-            struct plain_answer a = give(&g, log_in + at + 2);
+        } else if (input_n - at >= 39 && memcmp(input + at, "SG", 2) == 0) {
+            struct plain_answer a = give(&g, input + at + 2);
 
             if (a.number != 0)
                 want_n += (size_t)sprintf(want + want_n, "SG %d\n", a.number);
@@ -1073,36 +1041,7 @@ static void expect_log(void)
 /* Runs the program on the log, given in pieces of that many bytes (0: a file). */
 static int prints(size_t piece)
 {
-    char command[600];
-    FILE *f;
-    size_t n, at = 0;
-    int status = 0;
-
-    if (piece == 0) {
-        f = fopen("test.in", "wb");
-        if (f == NULL || fwrite(log_in, 1, log_n, f) != log_n || fclose(f) != 0)
-            return 0;
-        snprintf(command, sizeof command, "%s <test.in >test.out", program);
-        status = system(command);
-    } else {
-        snprintf(command, sizeof command, "%s >test.out", program);
-        f = popen(command, "w");
-        if (f == NULL)
-            return 0;
-        setvbuf(f, NULL, _IONBF, 0);
-        for (; at < log_n; at += n) {
-            n = log_n - at < piece ? log_n - at : piece;
-            if (fwrite(log_in + at, 1, n, f) != n)
-                break;
-        }
-        status = pclose(f);
-    }
-    f = fopen("test.out", "rb");
-    if (f == NULL)
-        return 0;
-    n = fread(got, 1, sizeof got, f);
-    fclose(f);
-    return status == 0 && n == want_n && memcmp(got, want, n) == 0;
+    return run_program(">test.out", piece) == 0 && has("test.out", want, want_n);
 }
 
 static void log_tests(void)
@@ -1113,7 +1052,7 @@ static void log_tests(void)
     unsigned round, i, k;
     size_t n, whole;
 
-    log_n = 0;
+    input_n = 0;
     sample_segment(seg, 0x30, 0x00);
     add("SG", 2);
     add(seg, 37);
@@ -1126,7 +1065,7 @@ static void log_tests(void)
     CHECK(want_n == sizeof sample - 1 && memcmp(want, sample, want_n) == 0);
 
     /* A list with an unknown ensemble. */
-    whole = log_n;
+    whole = input_n;
     seg[8] = 0xE1;
     add("SG", 2);
     add(seg, 37);
@@ -1135,19 +1074,19 @@ static void log_tests(void)
     want_n -= 6;
     expect("SG 0 list next 9\n545301230145550501\nEND 0\n");
     CHECK(prints(0));
-    log_n = whole;
+    input_n = whole;
 
     /* Every cut of the sample, and an unknown mark at its end. */
-    whole = log_n;
-    for (log_n = 0; log_n <= whole; log_n++) {
+    whole = input_n;
+    for (input_n = 0; input_n <= whole; input_n++) {
         expect_log();
-        CHECK(prints(log_n % 2 ? 0 : 7));
+        CHECK(prints(input_n % 2 ? 0 : 7));
     }
-    log_n = whole;
+    input_n = whole;
     for (i = 0; i < 8; i++) {
         static const char *const marks[] = {"SV", "Ga", "GR", "AG", "\n", "F", "FA", "S"};
 
-        log_n = whole;
+        input_n = whole;
         add(marks[i], strlen(marks[i]));
         add("FRGA", 4);
         expect_log();
@@ -1159,10 +1098,10 @@ static void log_tests(void)
        records and goes on with segments alone, so that the first block's end
        falls on each byte of a record. */
     for (round = 0; round < 45; round++) {
-        log_n = 0;
+        input_n = 0;
         for (i = 0; i < round; i++)
             add(round % 2 ? "GA" : "FR", 2);
-        while (log_n < 65536u * (1 + round % 3) + 3000) {
+        while (input_n < 65536u * (1 + round % 3) + 3000) {
             if (dice(3)) {
                 memset(seg, 0, sizeof seg);
                 n = random_chunk(c);
@@ -1183,43 +1122,43 @@ static void log_tests(void)
                     add(out + 37 * i, 37);
                 }
             }
-            if (round >= 39 || log_n > 65536u)
+            if (round >= 39 || input_n > 65536u)
                 add(dice(2) ? "GA" : "FR", 2);
         }
         expect_log();
         CHECK(prints(0));
         if (round % 5 == 0)
             CHECK(prints(1 + dice(60000)));
-        log_n -= 1 + dice(30);
+        input_n -= 1 + dice(30);
         expect_log();
         CHECK(prints(0));
     }
     /* The mark itself on the end of a block, for both of its bytes. */
     for (i = 65530; i < 65542; i++) {
-        log_n = 0;
-        while (log_n + 41 < i)
+        input_n = 0;
+        while (input_n + 41 < i)
             add("GA", 2);
-        while (log_n < i && (i - log_n) % 2 == 1) {
+        while (input_n < i && (i - input_n) % 2 == 1) {
             add("SG", 2);
             add(seg, 37);
         }
-        while (log_n < i)
+        while (input_n < i)
             add("FR", 2);
         for (k = 0; k < 3; k++) {
-            whole = log_n;
+            whole = input_n;
             expect_log();
             CHECK(prints(0));
             add("X", 1);
             expect_log();
             CHECK(prints(0));
-            log_n = whole;
+            input_n = whole;
             add("SG", 2);
             add(seg, 37);
         }
     }
     /* Only marks, an output far longer than the input. */
-    for (log_n = 0; log_n < 300000;)
-        add(log_n % 6 ? "FR" : "GA", 2);
+    for (input_n = 0; input_n < 300000;)
+        add(input_n % 6 ? "FR" : "GA", 2);
     expect_log();
     CHECK(prints(0));
     /* Output that can't be written, a log without end: it stops, with status 0. */
@@ -1258,10 +1197,5 @@ int main(int argc, char **argv)
         log_tests();
     } else
         printf("no log program given: not tested\n");
-    if (differ != 0) {
-        printf("%lu of %lu checks differ\n", differ, checked);
-        return 1;
-    }
-    printf("ok\n");
-    return 0;
+    return verdict();
 }

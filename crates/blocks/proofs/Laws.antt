@@ -8,16 +8,18 @@ use native.Mathlib.Nat.{sub-zero}
 use native.Mathlib.Numerals.{add-one}
 use native.Mathlib.Omega.{arith}
 use lib.Dec.{T}
+use Rattle.octets.specs.Bits.{Bytes as AllBytes}
 use Rattle.octets.specs.Checks.{among}
+use Rattle.octets.proofs.Laws.{bytes-take, bytes-drop}
 use lib.ListN.{length, getD, take, drop, set, length-drop, take-append-drop, drop-of-length-le}
-use lib.Seq.{take-suc, take-suc-set, take-take, take-add, take-at, drop-at, length-take-le, length-slice, drop-set-lt, drop-drop, getD-drop, length-sets, sets-eq}
+use lib.Seq.{take-suc, take-suc-set, take-take, take-add, take-all, take-at, drop-at, length-take-le, length-slice, drop-set-lt, drop-drop, getD-drop, length-sets, sets-eq}
 use Rattle.text.specs.Text.{Put}
 use Rattle.records.specs.declared.Entry.{Entry}
 use Rattle.records.specs.declared.Entry.the-variants.{End, Whole, Unknown, Cut}
 use Rattle.records.specs.Records.{Forms, entryIn, isWhole, endNumber, lastLine, longestLast, Record}
 use Rattle.records.specs.Transcripts.{Program, filled}
 use Rattle.records.proofs.Entries.{Within, entry-short, length-last}
-use Rattle.records.proofs.Transcripts.{filled-read, filled-room, filled-keeps}
+use Rattle.records.proofs.Transcripts.{filled-read, filled-keeps, Fits, filled-room}
 use Rattle.manners.specs.declared.Came.{Came}
 use Rattle.manners.specs.declared.Came.the-variants.{Bytes}
 use Rattle.manners.specs.declared.Came.the-variants.{End as CameEnd, Failed as CameFailed}
@@ -30,7 +32,7 @@ use Rattle.manners.specs.Manners.{bytesIn, Room, statusOf}
 use Rattle.blocks.specs.declared.Step.{Step}
 use Rattle.blocks.specs.declared.Step.the-variants.{Next, Last, NotRead, Unheard, NotWritten}
 use Rattle.blocks.specs.declared.Unread.{Unread}
-use Rattle.blocks.specs.Blocks.{mostTurns, unread, stepAfter, Stays, Brings, Refilled, Advances, Follows, Proceeds, TurnSays, Settles, Ends, runStatuses}
+use Rattle.blocks.specs.Blocks.{mostTurns, unread, stepAfter, Stays, Brings, Refilled, Advances, Follows, Proceeds, TurnSays, Concludes, Concluded, Settles, Ends, runStatuses}
 
 -- ---- a byte moved down from the place from + i to the place i
 
@@ -128,9 +130,10 @@ module _ (forms : Forms) (old : List ℕ) (at have : ℕ) (ahead : at ≤ have) 
   follows new u = subst (λ (k : Entry). Advances k old at have new u) stands-unread
 
   -- an entry that needs more is shorter than the longest record: there is room for a byte
-  pub room-for-more : (longest : ℕ) → Within longest forms → longest ≤ length old → (e ≡ End) ⊎ (e ≡ Cut) → have - at < length old
-  room-for-more longest within long short =
-      omega (arith, entry-short forms longest within (unread old at have) e stands-unread short, unread-length old at have ahead inside)
+  pub room-for-more : (longest : ℕ) → Within longest forms → AllBytes old → longest ≤ length old → (e ≡ End) ⊎ (e ≡ Cut) → have - at < length old
+  room-for-more longest within all long short =
+      let bytes : AllBytes (unread old at have) = bytes-take (have - at) (drop at old) (bytes-drop at old all) in
+      omega (arith, entry-short forms longest within (unread old at have) bytes e stands-unread short, unread-length old at have ahead inside)
 
 -- the input is at its end, or could not be read
 abbrev pub noMore : Step → Bool
@@ -184,24 +187,25 @@ proceeds e old at next have new u sent is = subst (λ (k : Sent). Proceeds k e o
 -- ---- a turn: the unread part xs of a block was filled
 
 module _ {S : Type 0} (p : Program S) where
-  -- what a program's `fill` says
-  abbrev pub Fills : S → List ℕ → List ℕ → S → ℕ → List ℕ → ℕ → Type 0
-  Fills s xs out t read after wrote =
-      (t ≡ filled p (length out) s xs .state) × (read ≡ filled p (length out) s xs .read) × Put (filled p (length out) s xs .text) out 0 after wrote
+  -- what a program's `fill` says, with so much room
+  abbrev pub Fills : ℕ → S → List ℕ → List ℕ → S → ℕ → List ℕ → ℕ → Type 0
+  Fills room s xs out t read after wrote =
+      let f = filled p room s xs in
+      (t ≡ f .state) × (read ≡ f .read) × Put (f .text) out 0 after wrote
 
-module _ {S : Type 0} (p : Program S) (s t : S) (xs out after : List ℕ) (read wrote : ℕ) (says : Fills p s xs out t read after wrote) where
+module _ {S : Type 0} (p : Program S) (room : ℕ) (s t : S) (xs out after : List ℕ) (read wrote : ℕ) (says : Fills p room s xs out t read after wrote) where
   pub filled-before : (at have : ℕ) → length xs ≡ have - at → at ≤ have → at + read ≤ have
-  filled-before at have e h = omega (arith, says .1, filled-read p (length out) s xs)
+  filled-before at have e h = omega (arith, says .1, filled-read p room s xs)
 
-  pub filled-inside : ((s : S) (r : Record) → length (p .text s r) ≤ p .longest) → wrote ≤ length after
-  filled-inside fits = put-inside (filled p (length out) s xs .text) out after wrote (says .2) (filled-room p fits (length out) s xs)
+  pub filled-inside : Fits p → room ≤ length out → wrote ≤ length after
+  filled-inside fits h = put-inside (filled p room s xs .text) out after wrote (says .2) (omega (arith, filled-room p fits room s xs))
 
   module _ (old : List ℕ) (at have : ℕ) (new : List ℕ) (u : Unread) where
     -- what stands behind the records, and what came of writing them
-    pub turn-says : (e : Entry) → e ≡ entryIn (p .forms) (unread old (at + read) have) → (sent : Sent) → Proceeds sent e old at (at + read) have new u → TurnSays (p .forms) (filled p (length out) s xs) old at have out t new after wrote u
+    pub turn-says : (e : Entry) → e ≡ entryIn (p .forms) (unread old (at + read) have) → (sent : Sent) → Proceeds sent e old at (at + read) have new u → TurnSays (p .forms) (filled p room s xs) old at have out t new after wrote u
     turn-says e stands sent g = record { state = says .0; text = says .2; place = place sent g }
       where
-        place : (sent : Sent) → Proceeds sent e old at (at + read) have new u → Follows (p .forms) old (at + filled p (length out) s xs .read) have new u ⊎ (Stays old at have Unheard new u ⊎ Stays old at have NotWritten new u)
+        place : (sent : Sent) → Proceeds sent e old at (at + read) have new u → Follows (p .forms) old (at + filled p room s xs .read) have new u ⊎ (Stays old at have Unheard new u ⊎ Stays old at have NotWritten new u)
         place All g = inl (subst (λ (n : ℕ). Follows (p .forms) old (at + n) have new u) (says .1) (subst (λ (k : Entry). Advances k old (at + read) have new u) stands g))
         place Gone g = inr (inl g)
         place Failed g = inr (inr g)
@@ -235,8 +239,16 @@ module _ {S : Type 0} (p : Program S) (Ready : S → Type 0) (keeps : (s : S) (r
 -- ---- the end of a run
 
 -- where it ends at a step
-pub settles : {f : Step} (e : Entry) (out : List ℕ) (r : Ending) (step : Step) → step ≡ f → Settles f e out r → Settles step e out r
-settles e out r step is = subst (λ (k : Step). Settles k e out r) (sym is)
+pub concludes : {f : Step} (e : Entry) (r : Ending) (step : Step) → step ≡ f → Concludes f e r → Concludes step e r
+concludes e r step is = subst (λ (k : Step). Concludes k e r) (sym is)
+
+-- the last line being put
+pub settles : (step : Step) (e : Entry) (out : List ℕ) (r : Ending) → Concludes step e r → take (length (lastLine e)) out ≡ lastLine e → Settles step e out r
+settles Next e out r g line = g
+settles Last e out r g line = (line, g)
+settles NotRead e out r g line = g
+settles Unheard e out r g line = g
+settles NotWritten e out r g line = g
 
 pub ends : (step : Step) (e : Entry) (turns : ℕ) (out : List ℕ) (r : Ending) → Settles step e out r → (noMore step ≡ true → isWhole e ≡ false) → (step ≡ Next → turns ≡ mostTurns) → Ends r turns e out
 ends Next e turns out r g over spent = rw g (spent refl)
@@ -247,18 +259,34 @@ ends NotRead e turns out r g over spent = rw g (over refl)
 ends Unheard e turns out r g over spent = rw g tt
 ends NotWritten e turns out r g over spent = rw g tt
 
+-- whatever stands in the output
+ended : (r : Ending) (turns : ℕ) (e : Entry) (out : List ℕ) → Ends r turns e out → Concluded r turns e
+ended (Over n) turns e out g = (g .0, g .1)
+ended EndNotRead turns e out g = g
+ended EndUnheard turns e out g = tt
+ended EndNotWritten turns e out g = tt
+ended Spent turns e out g = g
+
+pub concluded : (step : Step) (e : Entry) (turns : ℕ) (r : Ending) → Concludes step e r → (noMore step ≡ true → isWhole e ≡ false) → (step ≡ Next → turns ≡ mostTurns) → Concluded r turns e
+concluded step e turns r g over spent =
+    let line : List ℕ = lastLine e in
+    ended r turns e line (ends step e turns line r (settles step e line r g (take-all (length line) line (omega arith))) over spent)
+
 end-status : (e : Entry) → T (among runStatuses (endNumber e))
 end-status End = tt
 end-status (Whole n) = tt
 end-status Unknown = tt
 end-status Cut = tt
 
+pub concluded-status : (r : Ending) (turns : ℕ) (e : Entry) → Concluded r turns e → T (among runStatuses (statusOf r))
+concluded-status (Over n) turns e g = rw (g .1) (end-status e)
+concluded-status EndNotRead turns e g = tt
+concluded-status EndUnheard turns e g = tt
+concluded-status EndNotWritten turns e g = tt
+concluded-status Spent turns e g = tt
+
 pub ends-status : (r : Ending) (turns : ℕ) (e : Entry) (out : List ℕ) → Ends r turns e out → T (among runStatuses (statusOf r))
-ends-status (Over n) turns e out g = rw (g .1) (end-status e)
-ends-status EndNotRead turns e out g = tt
-ends-status EndUnheard turns e out g = tt
-ends-status EndNotWritten turns e out g = tt
-ends-status Spent turns e out g = tt
+ends-status r turns e out g = concluded-status r turns e (ended r turns e out g)
 
 -- the last line, put to the start of an output
 module _ (e : Entry) (out after : List ℕ) (end : ℕ) (p : Put (lastLine e) out 0 after end) (fits : longestLast ≤ length out) where

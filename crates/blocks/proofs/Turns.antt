@@ -9,7 +9,7 @@ use lib.ListN.{length, drop, length-append, length-drop}
 use Rattle.octets.proofs.Laws.{either}
 use Rattle.records.specs.declared.Entry.{Entry}
 use Rattle.records.specs.declared.Entry.the-variants.{End, Whole, Unknown, Cut}
-use Rattle.records.specs.Records.{entryIn, isWhole, lastLine}
+use Rattle.records.specs.Records.{entryIn, isWhole}
 use Rattle.records.specs.Transcripts.{Program, printedWith, Filled, filled}
 use Rattle.records.proofs.Entries.{entry-more, whole-some}
 use Rattle.records.proofs.Transcripts.{printed-last, filled-record, filled-stop, filled-read, filled-printed}
@@ -31,44 +31,45 @@ module _ {S : Type 0} (p : Program S) where
       either (isWhole (here xs)) (λ t. rw (filled-record p room s xs t r) (omega (arith, whole-some (p .forms) xs t)))
       (λ t. absurd (true≢false (sym (rw (filled-stop p room s xs t) at w) ∙ t)))
 
-  -- where no whole record stands, the last line is all
-  ends-printed : (last : Entry → List ℕ) (s : S) (xs : List ℕ) (e : Entry) → here xs ≡ e → isWhole e ≡ false → last e ≡ printedWith last p s xs
-  ends-printed last s xs e is w = sym (printed-last p last s xs (ap isWhole is ∙ w) ∙ ap last is)
+  -- where no whole record stands, what comes last is all
+  ends-printed : (last : S → Entry → List ℕ) (s : S) (xs : List ℕ) (e : Entry) → here xs ≡ e → isWhole e ≡ false → last s e ≡ printedWith last p s xs
+  ends-printed last s xs e is w = sym (printed-last p last s xs (ap isWhole is ∙ w) ∙ ap (last s) is)
 
   -- what is written behind the last record, by the reads
-  abbrev lastIn : List Reading → Entry → List ℕ
-  lastIn reads = lastWritten (failsIn reads)
+  abbrev lastIn : List Reading → S → Entry → List ℕ
+  lastIn reads s = lastWritten (failsIn reads) (p .last s)
 
   -- an unknown mark is told however the reads end, and anything else not where one fails
-  unknown-written : (failed : Bool) → lastLine Unknown ≡ lastWritten failed Unknown
-  unknown-written true = refl
-  unknown-written false = refl
+  unknown-written : (failed : Bool) (last : Entry → List ℕ) → last Unknown ≡ lastWritten failed last Unknown
+  unknown-written true last = refl
+  unknown-written false last = refl
 
-  none-written : (e : Entry) → isWhole e ≡ false → (e ≡ Unknown → ⊥) → [] ≡ lastWritten true e
-  none-written (Whole n) w u = refl
-  none-written End w u = refl
-  none-written Cut w u = refl
-  none-written Unknown w u = absurd (u refl)
+  none-written : (last : Entry → List ℕ) (e : Entry) → isWhole e ≡ false → (e ≡ Unknown → ⊥) → [] ≡ lastWritten true last e
+  none-written last (Whole n) w u = refl
+  none-written last End w u = refl
+  none-written last Cut w u = refl
+  none-written last Unknown w u = absurd (u refl)
 
   -- behind the records of a turn, ys being unread: the turns that follow print what is left wherever they are enough
   module _ (n : ℕ) (s : S) (more : Turns) (prints : (zs : List ℕ) (later : List Reading) → enough zs later ≤ n → more zs later ≡ printedWith (lastIn later) p s (zs ++ broughtBy later)) (ys : List ℕ) where
-    read-printed : (e : Entry) → here ys ≡ e → isWhole e ≡ false → (e ≡ Unknown → ⊥) → (reads : List Reading) → enough ys reads ≤ suc n → afterRead e more ys reads ≡ printedWith (lastIn reads) p s (ys ++ broughtBy reads)
-    read-printed e is w u [] h = rw append-nil (ends-printed lastLine s ys e is w)
-    read-printed e is w u (fails ∷ later) h = rw append-nil (none-written e w u ∙ ends-printed (lastWritten true) s ys e is w)
-    read-printed e is w u (brings [] ∷ later) h = rw append-nil (ends-printed lastLine s ys e is w)
+    read-printed : (e : Entry) → here ys ≡ e → isWhole e ≡ false → (e ≡ Unknown → ⊥) → (reads : List Reading) → enough ys reads ≤ suc n → afterRead (p .last s) e more ys reads ≡ printedWith (lastIn reads) p s (ys ++ broughtBy reads)
+    read-printed e is w u [] h = rw append-nil (ends-printed (p .last) s ys e is w)
+    read-printed e is w u (fails ∷ later) h =
+        rw append-nil (none-written (p .last s) e w u ∙ ends-printed (λ t. lastWritten true (p .last t)) s ys e is w)
+    read-printed e is w u (brings [] ∷ later) h = rw append-nil (ends-printed (p .last) s ys e is w)
     read-printed e is w u (brings (b ∷ bs) ∷ later) h =
         let read : List ℕ = b ∷ bs in
         prints (ys ++ read) later (omega (arith, length-append ys read, length-append read (broughtBy later))) ∙ ap (printedWith (lastIn later) p s) (append-assoc ys read (broughtBy later))
 
-    goes-printed : (e : Entry) → here ys ≡ e → (reads : List Reading) → enough ys reads ≤ suc n → (isWhole e ≡ true → enough ys reads ≤ n) → goesOn e more ys reads ≡ printedWith (lastIn reads) p s (ys ++ broughtBy reads)
+    goes-printed : (e : Entry) → here ys ≡ e → (reads : List Reading) → enough ys reads ≤ suc n → (isWhole e ≡ true → enough ys reads ≤ n) → goesOn (p .last s) e more ys reads ≡ printedWith (lastIn reads) p s (ys ++ broughtBy reads)
     goes-printed (Whole size) is reads h w = prints ys reads (w refl)
     goes-printed Unknown is reads h w =
-        unknown-written (failsIn reads)
+        unknown-written (failsIn reads) (p .last s)
         ∙ ends-printed (lastIn reads) s (ys ++ broughtBy reads) Unknown (entry-more (p .forms) ys (broughtBy reads) (inr is) ∙ is) refl
     goes-printed End is reads h w = read-printed End is refl (λ e. absurd (true≢false (sym (ap unknown e)))) reads h
     goes-printed Cut is reads h w = read-printed Cut is refl (λ e. absurd (true≢false (sym (ap unknown e)))) reads h
 
-  pub turned-printed : (room : ℕ) (s : S) (xs : List ℕ) (reads : List Reading) (n : ℕ) → p .longest ≤ room → enough xs reads ≤ n → turned p room n s xs reads ≡ printedWith (lastWritten (failsIn reads)) p s (xs ++ broughtBy reads)
+  pub turned-printed : (room : ℕ) (s : S) (xs : List ℕ) (reads : List Reading) (n : ℕ) → p .longest ≤ room → enough xs reads ≤ n → turned p room n s xs reads ≡ printedWith (λ t. lastWritten (failsIn reads) (p .last t)) p s (xs ++ broughtBy reads)
   unfolding turned
   turned-printed room s xs reads zero r h = absurd (omega arith)
   turned-printed room s xs reads (suc n) r h =

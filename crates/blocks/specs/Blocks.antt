@@ -96,7 +96,23 @@ pub record TurnSays {S : Type 0} (forms : Forms) (f : Filled S) (old : List ℕ)
 
 -- ---- a run: how it ended, after how many turns, what stood where it stopped, and the output then
 
--- by the step at which it stops: the last line was put to the output and written, or could not be; or a read failed, or a write; or no turn is left
+-- by the step at which it stops: what comes last was written, or could not be; or a read failed, or a write; or no turn is left
+abbrev pub Concludes : Step → Entry → Ending → Type 0
+Concludes Next e r = r ≡ Spent
+Concludes Last e r = EndsWriting (endNumber e) r
+Concludes NotRead e r = r ≡ EndNotRead
+Concludes Unheard e r = r ≡ EndUnheard
+Concludes NotWritten e r = r ≡ EndNotWritten
+
+-- it is over, with its number, where no whole record stands; where a read failed none stands either
+abbrev pub Concluded : Ending → ℕ → Entry → Type 0
+Concluded (Over n) turns e = (isWhole e ≡ false) × (n ≡ endNumber e)
+Concluded EndNotRead turns e = isWhole e ≡ false
+Concluded EndUnheard turns e = Unit {0}
+Concluded EndNotWritten turns e = Unit {0}
+Concluded Spent turns e = turns ≡ mostTurns
+
+-- the same with the last line, which was put to the output
 abbrev pub Settles : Step → Entry → List ℕ → Ending → Type 0
 Settles Next e out r = r ≡ Spent
 Settles Last e out r = (take (length (lastLine e)) out ≡ lastLine e) × EndsWriting (endNumber e) r

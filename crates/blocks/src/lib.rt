@@ -7,7 +7,7 @@ ghost use mathlib.Core.Path.{_≡_};
 ghost use mathlib.Core.Logic.{_⊎_};
 ghost use Prim.Native.Nat.{_+_, _-_, _≤_, _<_};
 ghost use lib.ListN.{length, take, drop};
-ghost use Rattle.blocks.specs.Blocks.{stepAfter, Refilled, Advances, Proceeds, stopsAt, Settles};
+ghost use Rattle.blocks.specs.Blocks.{stepAfter, Refilled, Advances, Proceeds, stopsAt, Concludes, Settles};
 ghost use Rattle.records.specs.Records.{longestLast};
 
 // What a turn leaves to be done.
@@ -131,26 +131,27 @@ pub fn stops(step: Step) -> bool
     }
 }
 
-// Puts out the last line.
-fn close(entry: Entry, out: &mut [u8], to: i32) -> Ending
-    requires { ⌜ longestLast ≤ length (now out) ⌝ }
-    ensures { λ r. ⌜ Settles Step.Last entry (now (out .exit)) r ⌝ }
-{
-    let n = records::put_last(entry, out);
-    let sent = manners::write_out(to, &out[..n]);
-    manners::ended(sent, records::end_number(entry))
-}
-
-// Ends a run at a step, where this entry stands.
-pub fn settle(step: Step, entry: Entry, out: &mut [u8], to: i32) -> Ending
-    requires { ⌜ longestLast ≤ length (now out) ⌝ }
-    ensures { λ r. ⌜ Settles step entry (now (out .exit)) r ⌝ }
+// Ends a run at a step, where this entry stands: what comes last is written, if no more can come.
+pub fn conclude(step: Step, entry: Entry, last: &[u8], to: i32) -> Ending
+    ensures { λ r. ⌜ Concludes step entry r ⌝ }
 {
     match step {
         Step::Next => Ending::Spent,
-        Step::Last => close(entry, out, to),
+        Step::Last => {
+            let sent = manners::write_out(to, last);
+            manners::ended(sent, records::end_number(entry))
+        }
         Step::NotRead => Ending::NotRead,
         Step::Unheard => Ending::Unheard,
         Step::NotWritten => Ending::NotWritten,
     }
+}
+
+// The same with the last line, which is put to the start of the output.
+pub fn settle(step: Step, entry: Entry, out: &mut [u8], to: i32) -> Ending
+    requires { ⌜ longestLast ≤ length (now out) ⌝ }
+    ensures { λ r. ⌜ Settles step entry (now (out .exit)) r ⌝ }
+{
+    let n = records::put_last(entry, out);
+    conclude(step, entry, &out[..n], to)
 }

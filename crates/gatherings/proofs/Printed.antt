@@ -12,6 +12,7 @@ use Rattle.octets.specs.Bits.{Bytes}
 use Rattle.octets.specs.Each.{Each}
 use Rattle.octets.specs.Checks.{among}
 use Rattle.text.specs.Text.{text, decimalIn, decimal}
+use Rattle.records.specs.declared.Form.the-variants.{Fixed}
 use Rattle.records.specs.declared.Entry.the-variants.{End, Whole}
 use Rattle.records.specs.Records.{markBytes, markIn, markOf, entryIn, isWhole, sizeOf, Record, recordIn, File, fileIn, lastLine}
 use Rattle.records.proofs.Entries.{shape-entry}
@@ -58,7 +59,7 @@ module _ (xs rest : List ℕ) (whole : length xs ≡ segmentBytes) where
 
   entry-logged : entryIn logForm log ≡ Whole (markBytes + segmentBytes)
   entry-logged =
-      shape-entry logForm log (Whole (markBytes + segmentBytes)) (segmentBytes, ap logForm mark-logged, refl, omega (arith, size-logged))
+      shape-entry logForm log (Whole (markBytes + segmentBytes)) (Fixed segmentBytes, ap logForm mark-logged, refl, refl, omega (arith, size-logged))
 
   record-logged : recordIn (markBytes + segmentBytes) log ≡ recordOf xs
   record-logged = λ i. record { mark = mark-logged i; content = take-at xs rest segmentBytes whole i }

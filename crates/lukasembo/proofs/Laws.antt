@@ -1,11 +1,15 @@
 -- The answers of the two calls: how great their parts are, and that the one number tells each of them. Assumes nothing.
-use mathlib.Core.Path.{_≡_, refl}
+use mathlib.Core.Path.{_≡_, refl, ap, ap₂, subst, _∙_}
+use mathlib.Core.Bool.{cond, and-eq-true-iff}
+use mathlib.Core.Logic.{⊎-elim}
 use mathlib.Core.List.{List}
-use Prim.Native.Nat.{ℕ, _/_, _%_, _≤_, _<_}
+use Prim.Native.Nat.{ℕ, _-_, _/_, _%_, _≤_, _<_}
 use native.Mathlib.Omega.{arith}
-use lib.Dec.{ltb, lit<, lit≤}
+use borrow.Author.Tests.{leb-true}
+use lib.Dec.{ltb, leb, lit<, lit≤}
 use lib.ListN.{length}
 use Rattle.octets.specs.Bits.{Bytes}
+use Rattle.octets.proofs.Laws.{either}
 use Rattle.meaning.specs.declared.Kind.{Kind}
 use Rattle.meaning.specs.declared.Kind.the-variants.{This, Next}
 use Rattle.meaning.specs.declared.Refusal.the-variants.{ShortBuffer}
@@ -28,7 +32,22 @@ use Rattle.writer.specs.declared.Written.the-variants.{Segments, Refused}
 use Rattle.writer.specs.Writing.{unwrittenNumber, writtenValues, writeAnswer}
 use Rattle.writer.proofs.Answers.{segments-says}
 use Rattle.writer.proofs.Outputs.{length-plainSegments}
+use Rattle.records.specs.declared.Entry.{Entry}
+use Rattle.records.specs.declared.Entry.the-variants.{Unknown, Cut}
+use Rattle.records.specs.declared.Entry.the-variants.{End as EntryEnd, Whole as EntryWhole}
+use Rattle.records.specs.Records.{entryIn}
+use Rattle.packets.specs.Packets.{shortestPacket, longestPacket, withinLimits}
+use Rattle.packets.specs.Stored.{storedHeadBytes}
+use Rattle.store.specs.declared.Next.the-variants.{Packet, Broken}
+use Rattle.store.specs.Store.{storeForm, nextBy, nextIn}
+use Rattle.tunnel.specs.declared.Unwrapped.{Unwrapped}
+use Rattle.tunnel.specs.declared.Unwrapped.the-variants.{Stored, Repeat, Foreign, BadOffset}
+use Rattle.tunnel.specs.declared.Unwrapped.the-variants.{ShortOutput as Unwrapped·ShortOutput}
+use Rattle.tunnel.specs.declared.Numbers.{Numbers}
+use Rattle.tunnel.specs.Unwrap.{Reader, unwrappedValues, unwrapped, UnwrapSays}
+use Rattle.tunnel.proofs.Results.{most-stored, most-left-out, most-lost, held-after}
 use Rattle.lukasembo.specs.Packed.{packedRead, packedWritten}
+use Rattle.lukasembo.specs.Steps.{packedUnwrapped, numbersIn, numbersLeft, StepSays}
 
 -- ---- small numbers
 
@@ -82,3 +101,51 @@ module _ (xs : List ℕ) (k : Kind) (output : List ℕ) where
       small : (a : Written) → writtenValues a .number < 0x100
       small (Segments n) = lit< tt
       small (Refused f) = unwritten-small f
+
+-- ---- the tunnel
+
+pub unwrapped-small : (r : Reader) (outer output : List ℕ) → let v = unwrappedValues (unwrapped r outer output .answer) in (v .stored < 65536) × (v .lost < 65536)
+unwrapped-small r outer output = (omega (arith, most-stored r outer output), omega (arith, most-lost r outer output))
+
+pub held-small : (r : Reader) (outer output : List ℕ) → r .numbers .held < 65536 → unwrapped r outer output .reader .numbers .held < 65536
+held-small r outer output h = ⊎-elim (λ e. omega (arith, e, h)) (λ g. omega (arith, g)) (held-after r outer output)
+
+-- the reader's promise, told
+pub step-says : (numbers : ℕ) (part outer output : List ℕ) (m : Numbers) (a : Unwrapped) (m′ : Numbers) (part′ output′ : List ℕ) (answer left : ℕ) → m ≡ numbersIn numbers → UnwrapSays m part outer output a m′ part′ output′ → answer ≡ packedUnwrapped a → left ≡ numbersLeft a numbers m′ → StepSays numbers part outer output answer left part′ output′
+step-says numbers part outer output m a m′ part′ output′ answer left is says packs keeps =
+    let s : UnwrapSays (numbersIn numbers) part outer output a m′ part′ output′ = subst (λ (k : Numbers). UnwrapSays k part outer output a m′ part′ output′) is says in
+    record {
+      answers = packs ∙ ap packedUnwrapped (s .answers);
+      keeps = keeps ∙ ap₂ (λ (b : Unwrapped) (r : Reader). numbersLeft b numbers (r .numbers)) (s .answers) (s .holds);
+      holds = ap (λ (r : Reader). r .bytes) (s .holds);
+      leaves = s .leaves;
+    }
+
+-- the one number tells each part of an answer
+pub unwrapped-told : (r : Reader) (outer output : List ℕ) → let a = unwrapped r outer output .answer in let v = unwrappedValues a in let n = packedUnwrapped a in (n % 0x100 ≡ v .number) × (n / 0x100 % 2 ≡ cond (v .repeat) 1 0) × (n / 0x10000 % 0x10000 ≡ v .gap) × (n / 0x100000000 % 0x10000 ≡ v .stored) × (n / 0x1000000000000 ≡ v .lost)
+unwrapped-told r outer output =
+    told (unwrapped r outer output .answer) (unwrapped-small r outer output .0) (unwrapped-small r outer output .1) (most-left-out r outer output)
+  where
+    told : (a : Unwrapped) → unwrappedValues a .stored < 65536 → unwrappedValues a .lost < 65536 → unwrappedValues a .gap < 65536 → let v = unwrappedValues a in let n = packedUnwrapped a in (n % 0x100 ≡ v .number) × (n / 0x100 % 2 ≡ cond (v .repeat) 1 0) × (n / 0x10000 % 0x10000 ≡ v .gap) × (n / 0x100000000 % 0x10000 ≡ v .stored) × (n / 0x1000000000000 ≡ v .lost)
+    told (Stored s g l) h k i = (omega arith, omega arith, omega arith, omega arith, omega arith)
+    told Repeat h k i = (refl, refl, refl, refl, refl)
+    told Unwrapped·ShortOutput h k i = (refl, refl, refl, refl, refl)
+    told Foreign h k i = (refl, refl, refl, refl, refl)
+    told (BadOffset g l) h k i = (omega arith, omega arith, omega arith, omega arith, omega arith)
+
+-- a packet of a store is not too long
+pub packet-short : (xs : List ℕ) (n : ℕ) → nextIn xs ≡ Packet n → n ≤ longestPacket
+unfolding nextIn
+packet-short xs n is = go (entryIn storeForm xs) is
+  where
+    go : (e : Entry) → nextBy e ≡ Packet n → n ≤ longestPacket
+    go EntryEnd e = let z : _≡_ {A = ℕ} 0 1 = cc in absurd (omega arith)
+    go Unknown e = let z : _≡_ {A = ℕ} 0 1 = cc in absurd (omega arith)
+    go Cut e = let z : _≡_ {A = ℕ} 0 1 = cc in absurd (omega arith)
+    go (EntryWhole m) e =
+        either (withinLimits (m - storedHeadBytes))
+        (λ w.
+        let same : Packet (m - storedHeadBytes) ≡ Packet n = rw w at e in
+        let size : m - storedHeadBytes ≡ n = cc in
+        subst (λ (k : ℕ). k ≤ longestPacket) size (leb-true (m - storedHeadBytes) longestPacket (and-eq-true-iff (leb shortestPacket (m - storedHeadBytes)) (leb (m - storedHeadBytes) longestPacket) .0 w .1)))
+        (λ w. let none : Broken ≡ Packet n = rw w at e in let z : _≡_ {A = ℕ} 0 1 = cc in absurd (omega arith))

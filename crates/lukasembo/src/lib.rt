@@ -1,15 +1,22 @@
-// The reader and the writer for programs in C: thin over the proved calls. include/lukasembo.h declares them.
+// The reader, the writer and the tunnel's reader for programs in C: thin over the proved calls. include/lukasembo.h declares them.
 use meaning::Read;
+use store::Next;
+use tunnel::Numbers;
+use tunnel::Unwrapped;
 use writer::Written;
 ghost use mathlib.Core.Path.{_≡_};
-ghost use Prim.Native.Nat.{_≤_};
+ghost use Prim.Native.Nat.{_≤_, _<_};
 ghost use Rattle.meaning.specs.Sizes.{longestListing};
 ghost use Rattle.meaning.specs.Lists.{kindOf};
 ghost use Rattle.meaning.specs.Numbers.{readValues};
 ghost use Rattle.meaning.specs.Reading.{readAnswer, readBuffer};
 ghost use Rattle.segments.specs.Segment.{mostSegments};
 ghost use Rattle.writer.specs.Writing.{writtenValues, writeAnswer, writeOutput};
+ghost use lib.ListN.{drop};
+ghost use Rattle.store.specs.Store.{nextIn};
+ghost use Rattle.tunnel.specs.Unwrap.{unwrappedValues};
 ghost use Rattle.lukasembo.specs.Packed.{packedRead, packedWritten};
+ghost use Rattle.lukasembo.specs.Steps.{packedUnwrapped, numbersIn, packedNumbers, numbersLeft, packedNext, StepSays};
 
 // The reader's answer as one number.
 fn pack_read(answer: Read) -> u64
@@ -57,4 +64,103 @@ pub extern "C" fn lukasembo_write(listing: &[u8], current: u8, output: &mut [u8]
     let kind = meaning::kind_of(current);
     let answer = writer::write(listing, kind, output);
     pack_written(answer)
+}
+
+// ---- the tunnel
+
+// After an outer packet: the answer, and the numbers that the caller keeps.
+#[repr(C)]
+pub struct Step {
+    pub answer: u64,
+    pub numbers: u64,
+}
+
+// The reader's numbers, as the caller keeps them.
+fn unpack_numbers(packed: u64) -> Numbers
+    ensures { λ r. ⌜ r ≡ numbersIn packed ⌝ }
+{
+    Numbers {
+        begun: packed / 0x100000000 != 0,
+        last: (packed / 0x10000 % 0x10000) as u16,
+        held: (packed % 0x10000) as usize,
+    }
+}
+
+fn pack_numbers(numbers: Numbers) -> u64
+    requires { ⌜ numbers .held < 65536 ⌝ }
+    ensures { λ r. ⌜ r ≡ packedNumbers numbers ⌝ }
+{
+    let low = numbers.held as u64 + numbers.last as u64 * 0x10000;
+    if numbers.begun {
+        return low + 0x100000000;
+    }
+    low
+}
+
+// What the caller keeps after an answer: where nothing changes, what was given.
+fn left_numbers(answer: Unwrapped, before: u64, after: Numbers) -> u64
+    requires { ⌜ after .held < 65536 ⌝ }
+    ensures { λ r. ⌜ r ≡ numbersLeft answer before after ⌝ }
+{
+    match answer {
+        Unwrapped::Stored {
+            stored: _,
+            gap: _,
+            lost: _,
+        } => pack_numbers(after),
+        Unwrapped::Repeat => before,
+        Unwrapped::ShortOutput => before,
+        Unwrapped::Foreign => before,
+        Unwrapped::BadOffset { gap: _, lost: _ } => pack_numbers(after),
+    }
+}
+
+// The tunnel's answer as one number.
+fn pack_unwrapped(answer: Unwrapped) -> u64
+    requires { ⌜ (unwrappedValues answer .stored < 65536) × (unwrappedValues answer .lost < 65536) ⌝ }
+    ensures { λ r. ⌜ r ≡ packedUnwrapped answer ⌝ }
+{
+    match answer {
+        Unwrapped::Stored { stored, gap, lost } => {
+            gap as u64 * 0x10000 + stored as u64 * 0x100000000 + lost as u64 * 0x1000000000000
+        }
+        Unwrapped::Repeat => 0x100,
+        Unwrapped::ShortOutput => 1,
+        Unwrapped::Foreign => 16,
+        Unwrapped::BadOffset { gap, lost } => {
+            17 + gap as u64 * 0x10000 + lost as u64 * 0x1000000000000
+        }
+    }
+}
+
+// Reads an outer packet: the inner packets that it finishes go to the start of the output.
+#[no_mangle]
+pub extern "C" fn lukasembo_unwrap_step(
+    numbers: u64,
+    part: &mut [u8; 1500],
+    outer: &[u8],
+    output: &mut [u8],
+) -> Step
+    ensures { λ r. ⌜ StepSays numbers (now (part .entry)) (now (outer .entry)) (now (output .entry)) (r .answer) (r .numbers) (now (part .exit)) (now (output .exit)) ⌝ }
+{
+    let m = unpack_numbers(numbers);
+    let fed = tunnel::unwrap(m, part, outer, output);
+    let answer = fed.answer;
+    let after = fed.numbers;
+    Step {
+        answer: pack_unwrapped(answer),
+        numbers: left_numbers(answer, numbers, after),
+    }
+}
+
+// What stands at a place of a store.
+#[no_mangle]
+pub extern "C" fn lukasembo_next_packet(store: &[u8], at: usize) -> u64
+    ensures { λ r. ⌜ r ≡ packedNext (nextIn (drop at (now (store .entry)))) ⌝ }
+{
+    match store::next_at(store, at) {
+        Next::End => 0,
+        Next::Packet(n) => n as u64 * 0x10000,
+        Next::Broken => 15,
+    }
 }

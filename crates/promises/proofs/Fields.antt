@@ -1,8 +1,9 @@
 -- The lemmas that the pages cite, with their parts under the names of Says.antt. Assumes nothing.
-use mathlib.Core.Path.{_≡_, sym, ap, _∙_}
+use mathlib.Core.Path.{_≡_, refl, sym, ap, subst, _∙_}
 use mathlib.Core.Bool.{Bool, true, false}
 use mathlib.Core.List.{List, _++_, map}
-use Prim.Native.Nat.{ℕ, _≤_, _<_}
+use mathlib.Core.Logic.{_⊎_}
+use Prim.Native.Nat.{ℕ, _-_, _≤_, _<_}
 use lib.ListN.{length, drop}
 use Rattle.octets.specs.Bits.{Bytes, Held}
 use Rattle.octets.specs.Each.{Each}
@@ -140,21 +141,27 @@ module _ (s : State) (log : List ℕ) where
   pub printed-record : let e = entryIn logForm log in isWhole e ≡ true → printed s log ≡ textIn logProgram s log ++ printed (nextIn logProgram s log) (drop (sizeOf e) log)
   printed-record w =
       same
-      ∙ programs.printed-record logProgram lastLine s log w
+      ∙ programs.printed-record logProgram (logProgram .last) s log w
       ∙ ap (λ (t : List ℕ). textIn logProgram s log ++ t) (sym (printed-program lastLine (nextIn logProgram s log) (drop (sizeOf (entryIn logForm log)) log)))
 
   pub printed-last : isWhole (entryIn logForm log) ≡ false → printed s log ≡ lastLine (entryIn logForm log)
-  printed-last w = same ∙ programs.printed-last logProgram lastLine s log w
+  printed-last w = same ∙ programs.printed-last logProgram (logProgram .last) s log w
 
 pub filled-printed : (room : ℕ) (s : State) (block rest : List ℕ) → let f = filled logProgram room s block in printed s (block ++ rest) ≡ f .text ++ printed (f .state) (drop (f .read) block ++ rest)
 filled-printed room s block rest =
     let f : Filled State = filled logProgram room s block in
     printed-program lastLine s (block ++ rest)
-    ∙ programs.filled-printed logProgram lastLine room s block rest
+    ∙ programs.filled-printed logProgram (logProgram .last) room s block rest
     ∙ ap (λ (t : List ℕ). f .text ++ t) (sym (printed-program lastLine (f .state) (drop (f .read) block ++ rest)))
 
-pub turned-printed : (room : ℕ) (s : State) (xs : List ℕ) (reads : List Reading) (n : ℕ) (failed : Bool) → longestLines ≤ room → enough xs reads ≤ n → failsIn reads ≡ failed → turned logProgram room n s xs reads ≡ printedWith (lastWritten failed) s (xs ++ broughtBy reads)
+-- a record takes the room of its lines and no more
+pub filled-stops : (room : ℕ) (s : State) (block : List ℕ) → let f = filled logProgram room s block in (isWhole (entryIn logForm (drop (f .read) block)) ≡ false) ⊎ (room - length (f .text) < longestLines)
+filled-stops room s block =
+    let f : Filled State = filled logProgram room s block in
+    subst (λ (n : ℕ). (isWhole (entryIn logForm (drop (f .read) block)) ≡ false) ⊎ (room - n < longestLines)) (programs.filled-cost logProgram (λ t r. refl) room s block) (programs.filled-stops logProgram room s block)
+
+pub turned-printed : (room : ℕ) (s : State) (xs : List ℕ) (reads : List Reading) (n : ℕ) (failed : Bool) → longestLines ≤ room → enough xs reads ≤ n → failsIn reads ≡ failed → turned logProgram room n s xs reads ≡ printedWith (lastWritten failed lastLine) s (xs ++ broughtBy reads)
 turned-printed room s xs reads n failed space h e =
     turns.turned-printed logProgram room s xs reads n space h
-    ∙ sym (printed-program (lastWritten (failsIn reads)) s (xs ++ broughtBy reads))
-    ∙ ap (λ (t : Bool). printedWith (lastWritten t) s (xs ++ broughtBy reads)) e
+    ∙ sym (printed-program (lastWritten (failsIn reads) lastLine) s (xs ++ broughtBy reads))
+    ∙ ap (λ (t : Bool). printedWith (lastWritten t lastLine) s (xs ++ broughtBy reads)) e

@@ -64,7 +64,7 @@ use Rattle.records.specs.declared.Entry.{Entry}
 use Rattle.records.specs.Records.{entryIn, isWhole, sizeOf, fileUpTo, lastLine}
 use Rattle.records.specs.Transcripts.{Filled, filled, nextIn, textIn}
 use Rattle.records.proofs.Entries.{entry-more}
-use Rattle.records.proofs.Transcripts.{file-any, filled-stops, filled-room, filled-keeps}
+use Rattle.records.proofs.Transcripts.{file-any, filled-room, filled-keeps}
 use Rattle.blocks.specs.Turns.{Reading, broughtBy, failsIn, lastWritten, turned, enough}
 use Rattle.lines.specs.Lines.{longestLines}
 use Rattle.replay.specs.Log.{logForm, printed, printedWith, logProgram}
@@ -325,7 +325,7 @@ module _ (room : ℕ) (s : State) (block : List ℕ) where
 
   -- a block is left only where no whole record stands, or where the output is full
   pub stops-for-a-reason : (isWhole (entryIn logForm unread) ≡ false) ⊎ (room - length (filling .text) < longestLines)
-  stops-for-a-reason = filled-stops logProgram room s block
+  stops-for-a-reason = fields.filled-stops room s block
 
   pub within-the-output : length (filling .text) ≤ room
   within-the-output = filled-room logProgram lines-fit room s block
@@ -345,5 +345,5 @@ module _ (room : ℕ) (s : State) (xs : List ℕ) (reads : List Reading) (n : �
   any-reads = fields.turned-printed room s xs reads n false space turns
 
   -- where a read fails, it is the lines of the records that came, and no last line but that of an unknown mark, behind which nothing is read
-  pub failed-read : failsIn reads ≡ true → turned logProgram room n s xs reads ≡ printedWith (lastWritten true) s (xs ++ broughtBy reads)
+  pub failed-read : failsIn reads ≡ true → turned logProgram room n s xs reads ≡ printedWith (lastWritten true lastLine) s (xs ++ broughtBy reads)
   failed-read = fields.turned-printed room s xs reads n true space turns

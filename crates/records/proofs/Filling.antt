@@ -11,9 +11,9 @@ use Rattle.octets.proofs.Laws.{either}
 use Rattle.octets.proofs.Stores.{sets-append}
 use Rattle.text.specs.Text.{Put}
 use Rattle.records.specs.Records.{entryIn, isWhole, sizeOf, Record}
-use Rattle.records.specs.Transcripts.{Program, Filled, still, followed, textIn, filled, Turned}
+use Rattle.records.specs.Transcripts.{Program, Filled, still, followed, textIn, costIn, filled, Turned}
 use Rattle.records.proofs.Entries.{size-inside, whole-some}
-use Rattle.records.proofs.Transcripts.{none-size, filled-record, filled-stop, filled-full, text-fits}
+use Rattle.records.proofs.Transcripts.{none-size, filled-record, filled-stop, filled-full, Fits, text-fits, cost-fits, cost-text}
 
 -- what stands in the output so far and what is still to be filled
 pub record Goes {S : Type 0} (out₀ : List ℕ) (f₀ : Filled S) (out : List ℕ) (at to : ℕ) (f : Filled S) : Type 0 where
@@ -22,16 +22,12 @@ pub record Goes {S : Type 0} (out₀ : List ℕ) (f₀ : Filled S) (out : List �
   pub writes : to + length (f .text) ≡ length (f₀ .text)
   pub puts : sets out to (f .text) ≡ sets out₀ 0 (f₀ .text)
 
-module _ {S : Type 0} (p : Program S) where
-  pub goes-start : (out : List ℕ) (s : S) (file : List ℕ) → Goes out (filled p (length out) s file) out 0 0 (filled p (length out - 0) s file)
-  goes-start out s file =
-      let all : length out - 0 ≡ length out = omega arith in
-      let f : Filled S = filled p (length out) s file in
-      rw all (record { states = refl; reads = zero-add (f .read); writes = zero-add (length (f .text)); puts = refl })
-
 module _ {S : Type 0} (out₀ : List ℕ) (f₀ : Filled S) where
-  goes-more : (out left : List ℕ) (at to read wrote bytes : ℕ) (text : List ℕ) (f : Filled S) → Goes out₀ f₀ out at to (followed bytes text f) → read ≡ at + bytes → Put text out to left wrote → Goes out₀ f₀ left read wrote f
-  goes-more out left at to read wrote bytes text f g r q =
+  pub goes-start : Goes out₀ f₀ out₀ 0 0 f₀
+  goes-start = record { states = refl; reads = zero-add (f₀ .read); writes = zero-add (length (f₀ .text)); puts = refl }
+
+  goes-more : (out left : List ℕ) (at to read wrote bytes cost : ℕ) (text : List ℕ) (f : Filled S) → Goes out₀ f₀ out at to (followed bytes cost text f) → read ≡ at + bytes → Put text out to left wrote → Goes out₀ f₀ left read wrote f
+  goes-more out left at to read wrote bytes cost text f g r q =
       record {
         states = g .states;
         reads = omega (arith, g .reads);
@@ -46,8 +42,8 @@ module _ {S : Type 0} (out₀ : List ℕ) (f₀ : Filled S) where
 
 -- an output that is full
 module _ {S : Type 0} (p : Program S) where
-  pub full-stops : (out₀ : List ℕ) (f₀ : Filled S) (out : List ℕ) (at to : ℕ) (s : S) (xs : List ℕ) → length out - to < p .longest → Goes out₀ f₀ out at to (filled p (length out - to) s xs) → Goes out₀ f₀ out at to (still s)
-  full-stops out₀ f₀ out at to s xs h g = subst (λ (f : Filled S). Goes out₀ f₀ out at to f) (filled-full p (length out - to) s xs h) g
+  pub full-stops : (out₀ : List ℕ) (f₀ : Filled S) (out : List ℕ) (at to room : ℕ) (s : S) (xs : List ℕ) → room < p .longest → Goes out₀ f₀ out at to (filled p room s xs) → Goes out₀ f₀ out at to (still s)
+  full-stops out₀ f₀ out at to room s xs h g = subst (λ (f : Filled S). Goes out₀ f₀ out at to f) (filled-full p room s xs h) g
 
 -- one record was taken at a place of the file
 module _ {S : Type 0} (p : Program S) (file out left : List ℕ) (at to read wrote : ℕ) (s t : S) (turn : Turned p s (drop at file) at to out t read left wrote) where
@@ -69,22 +65,24 @@ module _ {S : Type 0} (p : Program S) (file out left : List ℕ) (at to read wro
   pub turned-length : length left ≡ length out
   turned-length = ap length (turn .2 .1) ∙ length-sets out to (textIn p s xs)
 
-  module _ (fits : (s : S) (r : Record) → length (p .text s r) ≤ p .longest) where
-    pub turned-room : to + p .longest ≤ length out → wrote ≤ length left
-    turned-room h = omega (arith, turn .2 .0, text-fits p fits s xs, turned-length)
+  -- what is left of the room is inside the output
+  pub turned-room : Fits p → (room : ℕ) → p .longest ≤ room → to + room ≤ length out → wrote + (room - costIn p s (drop at file)) ≤ length left
+  turned-room fits room h inside = omega (arith, turn .2 .0, text-fits p fits s xs, cost-fits p fits s xs, turned-length)
 
-  module _ (out₀ : List ℕ) (f₀ : Filled S) (goes : Goes out₀ f₀ out at to (filled p (length out - to) s (drop at file))) where
-    pub turned-goes : to + p .longest ≤ length out → (read ≡ at → ⊥) → Goes out₀ f₀ left read wrote (filled p (length left - wrote) t (drop read file))
-    turned-goes h moved =
+  -- and is all that is left of it, where a record takes the room of its text and no more
+  pub turned-left : ((s : S) (r : Record) → p .cost s r ≡ length (p .text s r)) → length left - wrote ≡ length out - to - costIn p s (drop at file)
+  turned-left exact = omega (arith, turn .2 .0, cost-text p exact s xs, turned-length)
+
+  module _ (out₀ : List ℕ) (f₀ : Filled S) (room : ℕ) (goes : Goes out₀ f₀ out at to (filled p room s (drop at file))) where
+    pub turned-goes : p .longest ≤ room → (read ≡ at → ⊥) → (rest : ℕ) → rest ≡ room - costIn p s (drop at file) → Goes out₀ f₀ left read wrote (filled p rest t (drop read file))
+    turned-goes h moved rest is =
         whole-or
         (λ w.
         let size : ℕ = sizeOf (entryIn (p .forms) xs) in
-        let room : p .longest ≤ length out - to = omega arith in
-        let rest : length out - to - length (textIn p s xs) ≡ length left - wrote = omega (arith, turn .2 .0, turned-length) in
         let place : drop size xs ≡ drop read file = drop-drop size at file ∙ ap (λ (k : ℕ). drop k file) (sym (turn .1)) in
-        subst (λ (f : Filled S). Goes out₀ f₀ left read wrote f) (λ i. filled p (rest i) (sym (turn .0) i) (place i))
-        (goes-more out₀ f₀ out left at to read wrote size (textIn p s xs) _
-        (subst (λ (f : Filled S). Goes out₀ f₀ out at to f) (filled-record p (length out - to) s xs w room) goes) (turn .1) (turn .2)))
+        subst (λ (f : Filled S). Goes out₀ f₀ left read wrote f) (λ i. filled p (sym is i) (sym (turn .0) i) (place i))
+        (goes-more out₀ f₀ out left at to read wrote size (costIn p s xs) (textIn p s xs) _
+        (subst (λ (f : Filled S). Goes out₀ f₀ out at to f) (filled-record p room s xs w h) goes) (turn .1) (turn .2)))
         (λ w. absurd (moved (turn .1 ∙ ap (λ (n : ℕ). at + n) (none-size (entryIn (p .forms) xs) w) ∙ add-zero at)))
 
     pub turned-stops : read ≡ at → Goes out₀ f₀ left at wrote (still t)
@@ -98,4 +96,4 @@ module _ {S : Type 0} (p : Program S) (file out left : List ℕ) (at to read wro
         subst (λ (f : Filled S). Goes out₀ f₀ left at wrote f) (ap still (sym t-is))
         (subst (λ (l : List ℕ). Goes out₀ f₀ l at wrote (still s)) (sym left-same)
         (subst (λ (n : ℕ). Goes out₀ f₀ out at n (still s)) (sym to-is)
-        (subst (λ (f : Filled S). Goes out₀ f₀ out at to f) (filled-stop p (length out - to) s xs w) goes))))
+        (subst (λ (f : Filled S). Goes out₀ f₀ out at to f) (filled-stop p room s xs w) goes))))

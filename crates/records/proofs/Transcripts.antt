@@ -1,6 +1,6 @@
 -- The transcript of a file, record by record; and a block of a file gives a part of it, whatever comes after the block. Assumes nothing.
-use mathlib.Core.Path.{_≡_, refl, sym, ap, _∙_}
-use mathlib.Core.Bool.{true, false, cond, and-false, true≢false}
+use mathlib.Core.Path.{_≡_, refl, sym, ap, subst, _∙_}
+use mathlib.Core.Bool.{true, false, cond, _&&_, and-false, true≢false}
 use mathlib.Core.List.{List, [], _∷_, _++_, append-assoc}
 use mathlib.Core.Logic.{_⊎_, inl, inr}
 use Prim.Native.Nat.{ℕ, zero, suc, _+_, _-_, _≤_, _<_}
@@ -14,7 +14,7 @@ use Rattle.octets.proofs.Laws.{either}
 use Rattle.records.specs.declared.Entry.{Entry}
 use Rattle.records.specs.declared.Entry.the-variants.{End, Whole, Unknown, Cut}
 use Rattle.records.specs.Records.{Forms, entryIn, isWhole, sizeOf, Record, recordIn, File, fileFrom, fileUpTo, fileIn}
-use Rattle.records.specs.Transcripts.{Program, textOf, printedWith, Filled, still, followed, nextIn, textIn, filling, filled}
+use Rattle.records.specs.Transcripts.{Program, stateOf, textOf, printedWith, Filled, still, followed, nextIn, textIn, costIn, filling, filled}
 use Rattle.records.proofs.Entries.{size-inside, whole-some, entry-more, record-more}
 
 -- ---- the records of a file
@@ -76,7 +76,7 @@ module _ (forms : Forms) where
   unfolding fileIn fileUpTo
   file-none xs w = from-none (entry xs) (fileUpTo (length xs) forms) xs w
 
--- ---- the transcript: a record's text and the rest, or the last line
+-- ---- the transcript: a record's text and the rest, or what comes last
 
 module _ {S : Type 0} (p : Program S) where
   abbrev here : List ℕ → Entry
@@ -85,18 +85,18 @@ module _ {S : Type 0} (p : Program S) where
   abbrev rest : List ℕ → List ℕ
   rest xs = drop (sizeOf (here xs)) xs
 
-  pub printed-record : (last : Entry → List ℕ) (s : S) (xs : List ℕ) → isWhole (entryIn (p .forms) xs) ≡ true → printedWith last p s xs ≡ textIn p s xs ++ printedWith last p (nextIn p s xs) (drop (sizeOf (entryIn (p .forms) xs)) xs)
-  unfolding printedWith textOf
+  pub printed-record : (last : S → Entry → List ℕ) (s : S) (xs : List ℕ) → isWhole (entryIn (p .forms) xs) ≡ true → printedWith last p s xs ≡ textIn p s xs ++ printedWith last p (nextIn p s xs) (drop (sizeOf (entryIn (p .forms) xs)) xs)
+  unfolding printedWith stateOf textOf
   printed-record last s xs w =
       let r : Record = recordIn (sizeOf (here xs)) xs in
       let f : File = fileIn (p .forms) (rest xs) in
-      ap (λ (f : File). textOf p s (f .records) ++ last (f .end)) (file-record (p .forms) xs w)
-      ∙ append-assoc (p .text s r) (textOf p (p .next s r) (f .records)) (last (f .end))
-      ∙ (λ i. cond (sym w i) (p .text s r) [] ++ (textOf p (cond (sym w i) (p .next s r) s) (f .records) ++ last (f .end)))
+      ap (λ (f : File). textOf p s (f .records) ++ last (stateOf p s (f .records)) (f .end)) (file-record (p .forms) xs w)
+      ∙ append-assoc (p .text s r) (textOf p (p .next s r) (f .records)) (last (stateOf p (p .next s r) (f .records)) (f .end))
+      ∙ (λ i. let t = cond (sym w i) (p .next s r) s in cond (sym w i) (p .text s r) [] ++ (textOf p t (f .records) ++ last (stateOf p t (f .records)) (f .end)))
 
-  pub printed-last : (last : Entry → List ℕ) (s : S) (xs : List ℕ) → isWhole (entryIn (p .forms) xs) ≡ false → printedWith last p s xs ≡ last (entryIn (p .forms) xs)
-  unfolding printedWith textOf
-  printed-last last s xs w = ap (λ (f : File). textOf p s (f .records) ++ last (f .end)) (file-none (p .forms) xs w)
+  pub printed-last : (last : S → Entry → List ℕ) (s : S) (xs : List ℕ) → isWhole (entryIn (p .forms) xs) ≡ false → printedWith last p s xs ≡ last s (entryIn (p .forms) xs)
+  unfolding printedWith stateOf textOf
+  printed-last last s xs w = ap (λ (f : File). textOf p s (f .records) ++ last (stateOf p s (f .records)) (f .end)) (file-none (p .forms) xs w)
 
   -- what comes after a whole record does not matter to it
   module _ (s : S) (xs more : List ℕ) (w : isWhole (entryIn (p .forms) xs) ≡ true) where
@@ -112,7 +112,7 @@ module _ {S : Type 0} (p : Program S) where
     pub text-more : textIn p s (xs ++ more) ≡ textIn p s xs
     text-more i = cond (isWhole (same i)) (p .text s (record-same i)) []
 
-    printed-more : (last : Entry → List ℕ) → printedWith last p s (xs ++ more) ≡ textIn p s xs ++ printedWith last p (nextIn p s xs) (rest xs ++ more)
+    printed-more : (last : S → Entry → List ℕ) → printedWith last p s (xs ++ more) ≡ textIn p s xs ++ printedWith last p (nextIn p s xs) (rest xs ++ more)
     printed-more last =
         printed-record last s (xs ++ more) (ap isWhole same ∙ w)
         ∙ (λ i. text-more i ++ printedWith last p (next-more i) (drop (sizeOf (same i)) (xs ++ more)))
@@ -131,7 +131,7 @@ module _ {S : Type 0} (p : Program S) where
       (λ w. stop (inl w))
 
   module _ (n room : ℕ) (s : S) (xs : List ℕ) where
-    filling-record : isWhole (here xs) ≡ true → p .longest ≤ room → filling p (suc n) room s xs ≡ followed (sizeOf (here xs)) (textIn p s xs) (filling p n (room - length (textIn p s xs)) (nextIn p s xs) (rest xs))
+    filling-record : isWhole (here xs) ≡ true → p .longest ≤ room → filling p (suc n) room s xs ≡ followed (sizeOf (here xs)) (costIn p s xs) (textIn p s xs) (filling p n (room - costIn p s xs) (nextIn p s xs) (rest xs))
     unfolding filling
     filling-record w r = simp (w, le-leb (p .longest) room r)
 
@@ -147,15 +147,15 @@ module _ {S : Type 0} (p : Program S) where
       stops-or room xs (λ t. filling-stop n room s xs t ∙ sym (filling-stop m room s xs t))
       (λ w r.
       filling-record n room s xs w r
-      ∙ ap (followed (sizeOf (here xs)) (textIn p s xs)) (filling-any n m (room - length (textIn p s xs)) (nextIn p s xs) (rest xs) (left-shorter (p .forms) xs n w h) (left-shorter (p .forms) xs m w g))
+      ∙ ap (followed (sizeOf (here xs)) (costIn p s xs) (textIn p s xs)) (filling-any n m (room - costIn p s xs) (nextIn p s xs) (rest xs) (left-shorter (p .forms) xs n w h) (left-shorter (p .forms) xs m w g))
       ∙ sym (filling-record m room s xs w r))
 
   module _ (room : ℕ) (s : S) (xs : List ℕ) where
-    pub filled-record : isWhole (entryIn (p .forms) xs) ≡ true → p .longest ≤ room → filled p room s xs ≡ followed (sizeOf (entryIn (p .forms) xs)) (textIn p s xs) (filled p (room - length (textIn p s xs)) (nextIn p s xs) (drop (sizeOf (entryIn (p .forms) xs)) xs))
+    pub filled-record : isWhole (entryIn (p .forms) xs) ≡ true → p .longest ≤ room → filled p room s xs ≡ followed (sizeOf (entryIn (p .forms) xs)) (costIn p s xs) (textIn p s xs) (filled p (room - costIn p s xs) (nextIn p s xs) (drop (sizeOf (entryIn (p .forms) xs)) xs))
     unfolding filled
     filled-record w r =
         filling-record (length xs) room s xs w r
-        ∙ ap (followed (sizeOf (here xs)) (textIn p s xs)) (filling-any (length xs) (suc (length (rest xs))) (room - length (textIn p s xs)) (nextIn p s xs) (rest xs) (left-shorter (p .forms) xs (length xs) w (omega arith)) (omega arith))
+        ∙ ap (followed (sizeOf (here xs)) (costIn p s xs) (textIn p s xs)) (filling-any (length xs) (suc (length (rest xs))) (room - costIn p s xs) (nextIn p s xs) (rest xs) (left-shorter (p .forms) xs (length xs) w (omega arith)) (omega arith))
 
     pub filled-stop : isWhole (entryIn (p .forms) xs) ≡ false → filled p room s xs ≡ still s
     unfolding filled
@@ -166,12 +166,12 @@ module _ {S : Type 0} (p : Program S) where
     filled-full r = filling-stop (length xs) room s xs (inr r)
 
   -- a law of what is filled, by these cases
-  module _ (P : ℕ → S → List ℕ → Filled S → Type 0) (stop : (room : ℕ) (s : S) (xs : List ℕ) → Stops room xs → P room s xs (still s)) (more : (room : ℕ) (s : S) (xs : List ℕ) → isWhole (here xs) ≡ true → p .longest ≤ room → (f : Filled S) → P (room - length (textIn p s xs)) (nextIn p s xs) (rest xs) f → P room s xs (followed (sizeOf (here xs)) (textIn p s xs) f)) where
+  module _ (P : ℕ → S → List ℕ → Filled S → Type 0) (stop : (room : ℕ) (s : S) (xs : List ℕ) → Stops room xs → P room s xs (still s)) (more : (room : ℕ) (s : S) (xs : List ℕ) → isWhole (here xs) ≡ true → p .longest ≤ room → (f : Filled S) → P (room - costIn p s xs) (nextIn p s xs) (rest xs) f → P room s xs (followed (sizeOf (here xs)) (costIn p s xs) (textIn p s xs) f)) where
     filling-cases : (n room : ℕ) (s : S) (xs : List ℕ) → length xs < n → P room s xs (filling p n room s xs)
     filling-cases zero room s xs h = absurd (omega arith)
     filling-cases (suc n) room s xs h =
         stops-or room xs (λ t. rw (filling-stop n room s xs t) (stop room s xs t))
-        (λ w r. rw (filling-record n room s xs w r) (more room s xs w r _ (filling-cases n (room - length (textIn p s xs)) (nextIn p s xs) (rest xs) (left-shorter (p .forms) xs n w h))))
+        (λ w r. rw (filling-record n room s xs w r) (more room s xs w r _ (filling-cases n (room - costIn p s xs) (nextIn p s xs) (rest xs) (left-shorter (p .forms) xs n w h))))
 
     pub filled-cases : (room : ℕ) (s : S) (xs : List ℕ) → P room s xs (filled p room s xs)
     unfolding filled
@@ -183,7 +183,7 @@ module _ {S : Type 0} (p : Program S) where
       (λ room s xs w r f q. omega (arith, size-inside (p .forms) xs, length-drop (sizeOf (here xs)) xs))
 
   -- the streaming law
-  pub filled-printed : (last : Entry → List ℕ) (room : ℕ) (s : S) (xs after : List ℕ) → printedWith last p s (xs ++ after) ≡ filled p room s xs .text ++ printedWith last p (filled p room s xs .state) (drop (filled p room s xs .read) xs ++ after)
+  pub filled-printed : (last : S → Entry → List ℕ) (room : ℕ) (s : S) (xs after : List ℕ) → printedWith last p s (xs ++ after) ≡ filled p room s xs .text ++ printedWith last p (filled p room s xs .state) (drop (filled p room s xs .read) xs ++ after)
   filled-printed last room s xs after =
       filled-cases (λ room s xs f. printedWith last p s (xs ++ after) ≡ f .text ++ printedWith last p (f .state) (drop (f .read) xs ++ after)) (λ room s xs t. refl)
       (λ room s xs w r f q.
@@ -193,12 +193,12 @@ module _ {S : Type 0} (p : Program S) where
       ∙ ap (λ (t : List ℕ). (textIn p s xs ++ f .text) ++ printedWith last p (f .state) (t ++ after)) (drop-drop (f .read) (sizeOf (here xs)) xs))
       room s xs
 
-  pub filled-stops : (room : ℕ) (s : S) (xs : List ℕ) → Stops (room - length (filled p room s xs .text)) (drop (filled p room s xs .read) xs)
+  -- it stops for a reason, by the room that is left behind what its records took
+  pub filled-stops : (room : ℕ) (s : S) (xs : List ℕ) → Stops (room - filled p room s xs .cost) (drop (filled p room s xs .read) xs)
   filled-stops =
-      filled-cases (λ room s xs f. Stops (room - length (f .text)) (drop (f .read) xs)) (λ room s xs t. rw sub-zero t)
+      filled-cases (λ room s xs f. Stops (room - f .cost) (drop (f .read) xs)) (λ room s xs t. rw sub-zero t)
       (λ room s xs w r f q.
-      let l : List ℕ = textIn p s xs in
-      let e : room - length (l ++ f .text) ≡ room - length l - length (f .text) = omega (arith, length-append l (f .text)) in
+      let e : room - (costIn p s xs + f .cost) ≡ room - costIn p s xs - f .cost = omega arith in
       rw (e, ← drop-drop (f .read) (sizeOf (here xs)) xs) q)
 
   -- a property that every record keeps
@@ -207,12 +207,51 @@ module _ {S : Type 0} (p : Program S) where
       filled-cases (λ room s xs f. Q s → Q (f .state)) (λ room s xs t y. y)
       (λ room s xs w r f q y. q (rw w (keeps s (recordIn (sizeOf (here xs)) xs) y)))
 
-  -- the text of any record has room
-  module _ (fits : (s : S) (r : Record) → length (p .text s r) ≤ p .longest) where
-    pub text-fits : (s : S) (xs : List ℕ) → length (textIn p s xs) ≤ p .longest
-    text-fits s xs = either (isWhole (here xs)) (λ w. rw w (fits s (recordIn (sizeOf (here xs)) xs))) (λ w. rw w (omega arith))
+  -- the text of a record takes no more room than the record, and any record has room
+  pub record Fits : Type 0 where
+    pub text : (s : S) (r : Record) → length (p .text s r) ≤ p .cost s r
+    pub cost : (s : S) (r : Record) → p .cost s r ≤ p .longest
+
+  module _ (fits : Fits) where
+    pub text-fits : (s : S) (xs : List ℕ) → length (textIn p s xs) ≤ costIn p s xs
+    text-fits s xs = either (isWhole (here xs)) (λ w. rw w (fits .text s (recordIn (sizeOf (here xs)) xs))) (λ w. rw w (omega arith))
+
+    pub cost-fits : (s : S) (xs : List ℕ) → costIn p s xs ≤ p .longest
+    cost-fits s xs = either (isWhole (here xs)) (λ w. rw w (fits .cost s (recordIn (sizeOf (here xs)) xs))) (λ w. rw w (omega arith))
 
     pub filled-room : (room : ℕ) (s : S) (xs : List ℕ) → length (filled p room s xs .text) ≤ room
     filled-room =
         filled-cases (λ room s xs f. length (f .text) ≤ room) (λ room s xs t. omega arith)
-        (λ room s xs w r f q. omega (arith, text-fits s xs, length-append (textIn p s xs) (f .text)))
+        (λ room s xs w r f q. omega (arith, text-fits s xs, cost-fits s xs, length-append (textIn p s xs) (f .text)))
+
+  -- where a record takes the room of its text and no more
+  module _ (exact : (s : S) (r : Record) → p .cost s r ≡ length (p .text s r)) where
+    pub cost-text : (s : S) (xs : List ℕ) → costIn p s xs ≡ length (textIn p s xs)
+    cost-text s xs = either (isWhole (here xs)) (λ w. rw w (exact s (recordIn (sizeOf (here xs)) xs))) (λ w. rw w)
+
+    pub filled-cost : (room : ℕ) (s : S) (xs : List ℕ) → filled p room s xs .cost ≡ length (filled p room s xs .text)
+    filled-cost =
+        filled-cases (λ room s xs f. f .cost ≡ length (f .text)) (λ room s xs t. refl)
+        (λ room s xs w r f q. omega (arith, cost-text s xs, length-append (textIn p s xs) (f .text)))
+
+-- ---- two programs that differ only in what they write read alike, with the same states
+
+module _ {S : Type 0} (p : Program S) (text : S → Record → List ℕ) (last : S → Entry → List ℕ) where
+  abbrev other : Program S
+  other = record { forms = p .forms; next = p .next; text = text; cost = p .cost; longest = p .longest; last = last }
+
+  filling-alike : (n room : ℕ) (s : S) (xs : List ℕ) → (filling p n room s xs .state ≡ filling other n room s xs .state) × (filling p n room s xs .read ≡ filling other n room s xs .read)
+  unfolding filling
+  filling-alike zero room s xs = (refl, refl)
+  filling-alike (suc n) room s xs =
+      let e : Entry = entryIn (p .forms) xs in
+      let more = filling-alike n (room - costIn p s xs) (nextIn p s xs) (drop (sizeOf e) xs) in
+      either (isWhole e && leb (p .longest) room) (λ t. rw t (more .0, ap (λ (n : ℕ). sizeOf e + n) (more .1))) (λ t. rw t (refl, refl))
+
+module _ {S : Type 0} (p q : Program S) (forms : p .forms ≡ q .forms) (next : p .next ≡ q .next) (cost : p .cost ≡ q .cost) (longest : p .longest ≡ q .longest) where
+  pub filled-alike : (room : ℕ) (s : S) (xs : List ℕ) → (filled p room s xs .state ≡ filled q room s xs .state) × (filled p room s xs .read ≡ filled q room s xs .read)
+  unfolding filled
+  filled-alike room s xs =
+      subst (λ (r : Program S). (filled p room s xs .state ≡ filled r room s xs .state) × (filled p room s xs .read ≡ filled r room s xs .read))
+      (λ i. record { forms = forms i; next = next i; text = q .text; cost = cost i; longest = longest i; last = q .last })
+      (filling-alike p (q .text) (q .last) (suc (length xs)) room s xs)

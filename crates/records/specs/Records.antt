@@ -1,4 +1,4 @@
--- A file of records, one after the other: a two-byte mark, then as many bytes as the mark tells.
+-- A file of records, one after the other: a two-byte mark, then as many bytes as the mark tells, or as a length behind it tells.
 use Prim.Native.Nat.{ℕ, zero, suc, _+_, _-_}
 use Prim.Native.String.{String}
 use mathlib.Core.Bool.{Bool, true, false, cond}
@@ -8,12 +8,15 @@ use lib.ListN.{length, getD, take, drop}
 use Rattle.octets.specs.Word.{word}
 use Rattle.text.specs.Text.{text, numbered}
 use Rattle.records.specs.declared.Form.{Form}
-use Rattle.records.specs.declared.Form.the-variants.{Foreign, Fixed}
+use Rattle.records.specs.declared.Form.the-variants.{Foreign, Fixed, Counted}
 use Rattle.records.specs.declared.Entry.{Entry}
 use Rattle.records.specs.declared.Entry.the-variants.{End, Whole, Unknown, Cut}
 
 abbrev pub markBytes : ℕ
 markBytes = 2
+
+abbrev pub lengthBytes : ℕ
+lengthBytes = 2
 
 -- the mark at the start of xs; 0 if there are fewer than two bytes
 unfoldable pub markIn : List ℕ → ℕ
@@ -32,6 +35,10 @@ Forms = ℕ → Form
 abbrev pub entryOf : Form → List ℕ → Entry
 entryOf Foreign xs = Unknown
 entryOf (Fixed n) xs = cond (ltb (length xs) (markBytes + n)) Cut (Whole (markBytes + n))
+entryOf Counted xs =
+    cond (ltb (length xs) (markBytes + lengthBytes)) Cut
+    (let n = markBytes + lengthBytes + word (getD xs 2 0) (getD xs 3 0) in
+    cond (ltb (length xs) n) Cut (Whole n))
 
 abbrev pub entryAs : Form → List ℕ → Entry
 entryAs form xs =
@@ -63,6 +70,10 @@ pub record Record : Type 0 where
 -- the record of n bytes at the start of xs
 abbrev pub recordIn : ℕ → List ℕ → Record
 recordIn n xs = record { mark = markIn xs; content = take (n - markBytes) (drop markBytes xs) }
+
+-- what stands behind the length, in a record that has one
+abbrev pub bodyIn : Record → List ℕ
+bodyIn r = drop lengthBytes (r .content)
 
 -- the whole records of a file in order, and what stands behind the last: the end, an unknown mark, or a record that is cut
 pub record File : Type 0 where

@@ -1,14 +1,16 @@
 // Records with a mark: what stands at a place of a file of them.
 ghost use mathlib.Core.Path.{_≡_};
-ghost use Prim.Native.Nat.{_≤_};
+ghost use Prim.Native.Nat.{_+_, _≤_};
 ghost use lib.ListN.{length, drop};
 ghost use Rattle.text.specs.Text.{Put};
-ghost use Rattle.records.specs.Records.{markIn, entryAs, endNumber, lastLine, longestLast};
+ghost use Rattle.records.specs.Records.{markBytes, markIn, entryOf, entryAs, endNumber, lastLine, longestLast};
 
 // What a mark tells: so many bytes follow it; or it is none of this file's.
 pub enum Form {
     Foreign,
     Fixed(usize),
+    // a two-byte length follows the mark, big-endian, and that many bytes
+    Counted,
 }
 
 // What stands at a place of a file.
@@ -21,6 +23,8 @@ pub enum Entry {
 }
 
 pub const MARK_BYTES: usize = 2;
+
+pub const LENGTH_BYTES: usize = 2;
 
 // The mark at a place; 0 if there are fewer than two bytes.
 pub fn mark_at(file: &[u8], at: usize) -> u16
@@ -35,6 +39,25 @@ pub fn mark_at(file: &[u8], at: usize) -> u16
         return 0;
     }
     octets::word_of(file[at], file[at + 1])
+}
+
+// What stands at a place whose mark a length follows.
+fn counted_at(file: &[u8], at: usize) -> Entry
+    requires { ⌜ at + markBytes ≤ length (now file) ⌝ }
+    ensures { λ r. ⌜ r ≡ entryOf Form.Counted (drop at (now (file .entry))) ⌝ }
+{
+    let left = file.len() - at;
+    if left < MARK_BYTES + LENGTH_BYTES {
+        return Entry::Cut;
+    }
+    let from = at + MARK_BYTES;
+    let count = octets::word_of(file[from], file[from + 1]);
+    let size = MARK_BYTES + LENGTH_BYTES + (count as usize);
+    if left < size {
+        Entry::Cut
+    } else {
+        Entry::Whole(size)
+    }
 }
 
 // What stands at a place whose mark tells this.
@@ -57,6 +80,7 @@ pub fn entry_at(file: &[u8], at: usize, form: Form) -> Entry
                 Entry::Whole(MARK_BYTES + n)
             }
         }
+        Form::Counted => counted_at(file, at),
     }
 }
 

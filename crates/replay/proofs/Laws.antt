@@ -16,6 +16,7 @@ use Rattle.records.specs.declared.Entry.{Entry}
 use Rattle.records.specs.declared.Entry.the-variants.{Whole}
 use Rattle.records.specs.Records.{markBytes, markOf, markIn, entryAs, entryIn, isWhole, sizeOf, Record, recordIn}
 use Rattle.records.specs.Transcripts.{Filled, still, nextIn, textIn, Turned}
+use Rattle.records.proofs.Entries as programs
 use Rattle.records.proofs.Entries.{size-inside, whole-some}
 use Rattle.records.proofs.Transcripts.{none-size}
 use Rattle.records.proofs.Filling.{Goes, goes-end}
@@ -122,8 +123,7 @@ pub form-foreign : (m : ℕ) → (m ≡ markOf "FR" → ⊥) → (m ≡ markOf "
 form-foreign m f g h = simp (ne-eqb _ _ f, ne-eqb _ _ g, ne-eqb _ _ h)
 
 pub entry-by : (xs : List ℕ) (mark : ℕ) (form : Form) (e : Entry) → mark ≡ markIn xs → form ≡ logForm mark → e ≡ entryAs form xs → e ≡ entryIn logForm xs
-unfolding entryIn
-entry-by xs mark form e m f is = is ∙ ap (λ (g : Form). entryAs g xs) (f ∙ ap logForm m)
+entry-by = programs.entry-by logForm
 
 module _ (log : List ℕ) (at n : ℕ) where
   pub whole-there : at ≤ length log → Whole n ≡ entryIn logForm (drop at log) → (markBytes ≤ n) × (at + n ≤ length log)

@@ -2,7 +2,7 @@
 use mathlib.Core.Path.{_≡_, refl, sym, ap, _∙_}
 use mathlib.Core.Bool.{Bool, true, false, cond}
 use mathlib.Core.List.{List, [], _∷_, _++_, map, flatMap}
-use Prim.Native.Nat.{ℕ, _+_, _≤_}
+use Prim.Native.Nat.{ℕ, _≤_}
 use native.Mathlib.Omega.{arith}
 use lib.Dec.{eqb}
 use lib.ListN.{length, take, length-take}
@@ -12,6 +12,7 @@ use Rattle.records.specs.Records.{markOf, Record, File, fileIn}
 use Rattle.records.specs.declared.Entry.{Entry}
 use Rattle.records.specs.Transcripts.{textOf, printedWith as Transcripts·printedWith}
 use Rattle.records.proofs.Entries.{formBytes, Within}
+use Rattle.records.proofs.Transcripts.{Fits}
 use Rattle.meaning.specs.declared.Kind.{Kind}
 use Rattle.meaning.specs.declared.Kind.the-variants.{This}
 use Rattle.meaning.specs.Sizes.{longestListing}
@@ -60,7 +61,7 @@ run-text s (r ∷ rs) =
     ap (λ (x : List ℕ). linesOf (toldBy segmentAfter s (callOf s r)) ++ x)
     (ap (λ (cs : List Call). flatMap linesOf (ran t cs .told)) (sym (calls-again s (callOf s r) rs)) ∙ run-text t rs)
 
-pub printed-program : (last : Entry → List ℕ) (s : State) (log : List ℕ) → printedWith last s log ≡ Transcripts·printedWith last logProgram s log
+pub printed-program : (last : Entry → List ℕ) (s : State) (log : List ℕ) → printedWith last s log ≡ Transcripts·printedWith (λ t. last) logProgram s log
 unfolding printedWith Transcripts·printedWith
 printed-program last s log =
     let f : File = fileIn logForm log in
@@ -104,5 +105,5 @@ told-fits s (segment c) =
     let a : Answer = segmentAfter (s .desk) (c .segment) one two .answer in
     length-answer a (shownIn (segmentKind (c .segment)) t) (few (s .desk) (c .segment) one two a refl) (length-shown (segmentKind (c .segment)) t)
 
-pub lines-fit : (s : State) (r : Record) → length (logProgram .text s r) ≤ logProgram .longest
-lines-fit s r = told-fits s (callOf s r)
+pub lines-fit : Fits logProgram
+lines-fit = record { text = λ s r. omega arith; cost = λ s r. told-fits s (callOf s r) }

@@ -56,7 +56,9 @@ logProgram =
       forms = logForm;
       next = λ s r. leftBy segmentAfter s (callOf s r);
       text = λ s r. linesOf (toldBy segmentAfter s (callOf s r));
+      cost = λ s r. length (linesOf (toldBy segmentAfter s (callOf s r)));
       longest = longestLines;
+      last = λ s e. lastLine e;
     }
 
 -- what the call of a record leaves, with its lines put to the place `to` of an output

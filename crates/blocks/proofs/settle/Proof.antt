@@ -1,59 +1,40 @@
--- `blocks::settle` meets its contract: by the step. Assumes nothing.
-use mathlib.Core.Path.{refl}
-use Rattle.blocks.proofs.Laws.{settles}
+-- `blocks::settle` meets its contract: the last line stands at the start of the output, and the run is concluded. Assumes nothing.
+use mathlib.Core.Path.{sym}
+use denote.Ref.{now}
+use lib.Seq.{length-take-le}
+use Rattle.blocks.proofs.Laws.{last-inside, last-front, settles}
 use borrow.Author.Needs.{needs}
 use Rattle.blocks.proofs.settle.Statement.{statement}
 use Rattle.blocks.proofs.settle.Tie as tie
 
-enum-told : tie.Need-enum-told
-enum-told c = search needs
+put-last-requires : tie.Need-put-last-requires
+put-last-requires c κs = search needs
 
-enum-told-2 : tie.Need-enum-told-2
-enum-told-2 c = search needs
+slice-reshare-prefix-conclude : tie.Need-slice-reshare-prefix-conclude
+slice-reshare-prefix-conclude c = let s = c .before .before .before .before .before in last-inside (s .args .entry) (now (s .args .out)) _ _ (c .before .before .put-last .ensures) (s .pre)
 
-close-requires : tie.Need-close-requires
-close-requires c κs = search needs
+slice-aggregate-conclude : tie.Need-slice-aggregate-conclude
+slice-aggregate-conclude c = sym (length-take-le _ _ (slice-reshare-prefix-conclude (c .before)))
 
-enum-told-3 : tie.Need-enum-told-3
-enum-told-3 c = search needs
-
-enum-told-4 : tie.Need-enum-told-4
-enum-told-4 c = search needs
-
-enum-told-5 : tie.Need-enum-told-5
-enum-told-5 c = search needs
-
-returns : tie.Need-returns
-returns c = settles _ _ _ _ (c .enum-told .given .1) refl
+conclude-requires : tie.Need-conclude-requires
+conclude-requires c κs = search needs
 
 same-length : tie.Need-same-length
 same-length c = search needs
 
-returns-2 : tie.Need-returns-2
-returns-2 c = settles _ _ _ _ (c .before .before .before .before .enum-told2 .given .1) (c .before .before .close .ensures)
-
-returns-3 : tie.Need-returns-3
-returns-3 c = settles _ _ _ _ (c .enum-told3 .given .1) refl
-
-returns-4 : tie.Need-returns-4
-returns-4 c = settles _ _ _ _ (c .enum-told4 .given .1) refl
-
-returns-5 : tie.Need-returns-5
-returns-5 c = settles _ _ _ _ (c .enum-told5 .given .1) refl
+returns : tie.Need-returns
+returns c =
+    let p = c .before .before .before .before in
+    let s = c .before .before .before .before .before .before .before in
+    settles (s .args .step) (s .args .entry) _ _ (c .conclude .ensures) (last-front (s .args .entry) (now (s .args .out)) _ _ (p .put-last .ensures) (s .pre))
 
 pub settle-spec : {M : Type 1} → statement M
 settle-spec =
     tie.close
     (tie.spec
-    enum-told
-    enum-told-2
-    close-requires
-    enum-told-3
-    enum-told-4
-    enum-told-5
-    returns
+    put-last-requires
+    slice-reshare-prefix-conclude
+    slice-aggregate-conclude
+    conclude-requires
     same-length
-    returns-2
-    returns-3
-    returns-4
-    returns-5)
+    returns)

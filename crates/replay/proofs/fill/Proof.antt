@@ -1,6 +1,7 @@
 -- `replay::fill` meets its contract. The loop's invariant: what is left to fill, put here, makes the whole that was asked for; the measure is what is left of the log. Assumes nothing.
+use native.Mathlib.Nat.{sub-zero}
 use native.Mathlib.Omega.{arith}
-use Prim.Native.Nat.{ℕ, _+_, _-_, _≤_}
+use Prim.Native.Nat.{ℕ, _-_, _≤_}
 use mathlib.Core.List.{List}
 use mathlib.Core.Path.{_≡_, refl, _∙_}
 use lib.ListN.{length, drop}
@@ -9,7 +10,7 @@ use Rattle.desk.specs.Desks.{desk}
 use Rattle.desk.specs.Calls.{State, state, Ready}
 use Rattle.lines.specs.Lines.{longestLines}
 use Rattle.records.specs.Transcripts.{Filled, filled}
-use Rattle.records.proofs.Filling.{Goes, goes-start, full-stops, turned-keeps, turned-inside, turned-less, turned-length, turned-room, turned-goes, turned-stops}
+use Rattle.records.proofs.Filling.{Goes, goes-start, full-stops, turned-keeps, turned-inside, turned-less, turned-length, turned-room, turned-left, turned-goes, turned-stops}
 use Rattle.replay.specs.Log.{logProgram}
 use Rattle.replay.proofs.Log.{next-ready, lines-fit}
 use Rattle.replay.proofs.Laws.{turned-anew, filled-is}
@@ -34,7 +35,8 @@ abbrev μ-loop : tie.MeasureT-loop
 loop-holds : tie.Need-loop-holds Inv-loop μ-loop
 loop-holds c =
     let a = c .before .before .before .before .before .args in
-    (c .before .before .before .before .before .pre, omega arith, omega arith, refl, refl, refl, refl, goes-start logProgram (now (a .out)) (state (desk (a .notes) (now (a .bytes))) (now (a .first)) (now (a .second))) (now (a .log)))
+    let f₀ : Filled State = filled logProgram (length (now (a .out))) (state (desk (a .notes) (now (a .bytes))) (now (a .first)) (now (a .second))) (now (a .log)) in
+    (c .before .before .before .before .before .pre, omega arith, omega arith, refl, refl, refl, refl, rw (sub-zero (length (now (a .out)))) (goes-start (now (a .out)) f₀))
 
 sub-loop : tie.Need-sub-loop Inv-loop μ-loop
 sub-loop c = omega arith
@@ -68,7 +70,7 @@ returns c =
     let s : State = state (desk (l .m) (l .bytes)) (l .first) (l .second) in
     let turned = turned-anew s (drop (l .at) log) (l .at) (l .to) (l .out) _ _ _ _ _ _ _ _ (c .before .before .before .anew .ensures) (c .before .before .before .before .before .before .before .before .before .before .before .before .before .turn .ensures) in
     let f₀ : Filled State = (filled logProgram (length (now (a .out))) (state (desk (a .notes) (now (a .bytes))) (now (a .first)) (now (a .second))) (now (a .log))) in
-    filled-is (now (a .out)) f₀ _ _ _ _ _ _ _ _ _ _ (turned-stops logProgram log (l .out) _ (l .at) (l .to) _ _ s _ turned (now (a .out)) f₀ (l .inv .7) (c .before .if1 .taken)) (c .idle .ensures)
+    filled-is (now (a .out)) f₀ _ _ _ _ _ _ _ _ _ _ (turned-stops logProgram log (l .out) _ (l .at) (l .to) _ _ s _ turned (now (a .out)) f₀ _ (l .inv .7) (c .before .if1 .taken)) (c .idle .ensures)
 
 loop-less : tie.Need-loop-less Inv-loop μ-loop
 loop-less c =
@@ -86,15 +88,15 @@ loop-again c =
     let log : List ℕ = now (a .log) in
     let s : State = state (desk (l .m) (l .bytes)) (l .first) (l .second) in
     let turned = turned-anew s (drop (l .at) log) (l .at) (l .to) (l .out) _ _ _ _ _ _ _ _ (c .before .before .anew .ensures) (c .before .before .before .before .before .before .before .before .before .before .before .before .turn .ensures) in
-    let room : l .to + longestLines ≤ length (l .out) = omega (arith, c .before .before .before .before .before .before .before .before .before .before .before .before .before .before .before .before .before .loop-test .taken, l .inv .2) in (
+    let room : longestLines ≤ length (l .out) - l .to = omega (arith, c .before .before .before .before .before .before .before .before .before .before .before .before .before .before .before .before .before .loop-test .taken, l .inv .2) in (
       turned-keeps logProgram log (l .out) _ (l .at) (l .to) _ _ s _ turned Ready next-ready (l .inv .0),
       turned-inside logProgram log (l .out) _ (l .at) (l .to) _ _ s _ turned (l .inv .1),
-      turned-room logProgram log (l .out) _ (l .at) (l .to) _ _ s _ turned lines-fit room,
+      omega (arith, turned-room logProgram log (l .out) _ (l .at) (l .to) _ _ s _ turned lines-fit (length (l .out) - l .to) room (omega (arith, l .inv .2))),
       turned-length logProgram log (l .out) _ (l .at) (l .to) _ _ s _ turned ∙ l .inv .3,
       c .before .before .before .before .before .before .before .before .before .before .before .before .turn .kept .1 .0 ∙ l .inv .4,
       c .before .before .before .before .before .before .before .before .before .before .before .before .turn .kept .1 .1 .0 ∙ l .inv .5,
       c .before .before .before .before .before .before .before .before .before .before .before .before .turn .kept .1 .1 .1 .0 ∙ l .inv .6,
-      turned-goes logProgram log (l .out) _ (l .at) (l .to) _ _ s _ turned (now (a .out)) (filled logProgram (length (now (a .out))) (state (desk (a .notes) (now (a .bytes))) (now (a .first)) (now (a .second))) (now (a .log))) (l .inv .7) room (c .if1 .left),
+      turned-goes logProgram log (l .out) _ (l .at) (l .to) _ _ s _ turned (now (a .out)) (filled logProgram (length (now (a .out))) (state (desk (a .notes) (now (a .bytes))) (now (a .first)) (now (a .second))) (now (a .log))) _ (l .inv .7) room (c .if1 .left) _ (turned-left logProgram log (l .out) _ (l .at) (l .to) _ _ s _ turned (λ s r. refl)),
     )
 
 idle-requires-2 : tie.Need-idle-requires-2 Inv-loop μ-loop
@@ -116,7 +118,7 @@ returns-2 : tie.Need-returns-2 Inv-loop μ-loop
 returns-2 c =
     let a = c .before .before .before .before .before .before .before .before .args in
     let f₀ : Filled State = (filled logProgram (length (now (a .out))) (state (desk (a .notes) (now (a .bytes))) (now (a .first)) (now (a .second))) (now (a .log))) in
-    filled-is (now (a .out)) f₀ _ _ _ _ _ _ _ _ _ _ (full-stops logProgram (now (a .out)) f₀ _ _ _ _ (drop (c .before .before .loop .at) (now (a .log))) (c .before .loop-test .left) (c .before .before .loop .inv .7)) (c .idle2 .ensures)
+    filled-is (now (a .out)) f₀ _ _ _ _ _ _ _ _ _ _ (full-stops logProgram (now (a .out)) f₀ _ _ _ _ _ (drop (c .before .before .loop .at) (now (a .log))) (c .before .loop-test .left) (c .before .before .loop .inv .7)) (c .idle2 .ensures)
 
 pub fill-spec : {M : Type 1} → statement M
 fill-spec =

@@ -5,6 +5,8 @@ use Prim.Native.Nat.{ℕ, _+_, _≤_}
 use denote.Ref.{now}
 use lib.ListN.{length}
 use lib.Seq.{length-take-le}
+use Rattle.octets.specs.Bits.{Bytes}
+use Rattle.octets.proofs.Laws.{bytes-all}
 use Rattle.desk.specs.Desks.{desk}
 use Rattle.desk.specs.Calls.{State, state}
 use Rattle.blocks.specs.Blocks.{unread}
@@ -33,11 +35,17 @@ module _ (c : tie.After-fill) where
   abbrev xs : List ℕ
   xs = unread block (s .args .at) (s .args .have)
 
+  abbrev room : ℕ
+  room = length (now (s .args .out))
+
+  bytes : Bytes block
+  bytes = bytes-all block (λ i. omega (arith, c .before .before .before .before .before .before .before .before .slice-known4 .given i))
+
   inside : c .fill .result .wrote ≤ length (c .fill .last .1 .1 .1 .1 .1 .0)
-  inside = filled-inside logProgram from after xs (now (s .args .out)) _ _ _ (c .fill .ensures) lines-fit
+  inside = filled-inside logProgram room from after xs (now (s .args .out)) _ _ _ (c .fill .ensures) lines-fit (omega arith)
 
   most : s .args .at + c .fill .result .read ≤ s .args .have
-  most = filled-before logProgram from after xs (now (s .args .out)) _ _ _ (c .fill .ensures) (s .args .at) (s .args .have) (unread-length block _ _ (s .pre .1 .0) (s .pre .1 .1)) (s .pre .1 .0)
+  most = filled-before logProgram room from after xs (now (s .args .out)) _ _ _ (c .fill .ensures) (s .args .at) (s .args .have) (unread-length block _ _ (s .pre .1 .0) (s .pre .1 .1)) (s .pre .1 .0)
 
 abbrev known : tie.After-struct-known → tie.After-fill
 known c = c .before .before .before .before .before .before .before .before .before .before
@@ -80,7 +88,7 @@ proceed-requires c κs =
     let e = c .before .before .before in
     let k = known (e .before .before) in
     let next = s k .args .at + k .fill .result .read in
-    ((omega (arith, most k, s k .pre .1 .0), s k .pre .1 .1), room-for-more logForm (block k) next (s k .args .have) (most k) (s k .pre .1 .1) _ (e .entry-at .ensures) longestRecord log-within (s k .pre .1 .2))
+    ((omega (arith, most k, s k .pre .1 .0), s k .pre .1 .1), room-for-more logForm (block k) next (s k .args .have) (most k) (s k .pre .1 .1) _ (e .entry-at .ensures) longestRecord log-within (bytes k) (s k .pre .1 .2))
 
 same-length : tie.Need-same-length
 same-length c = search needs
@@ -103,7 +111,7 @@ returns c =
     let k = known (e .before .before) in
     let next = s k .args .at + k .fill .result .read in
     let stands = stands-unread logForm (block k) next (s k .args .have) (most k) (s k .pre .1 .1) _ (e .entry-at .ensures) in
-    turn-says logProgram (from k) (after k) (xs k) (now (s k .args .out)) _ _ _ (k .fill .ensures) (block k) (s k .args .at) (s k .args .have) _ _ _ stands (c .before .before .before .before .write-out .result) (c .before .before .proceed .ensures)
+    turn-says logProgram (room k) (from k) (after k) (xs k) (now (s k .args .out)) _ _ _ (k .fill .ensures) (block k) (s k .args .at) (s k .args .have) _ _ _ stands (c .before .before .before .before .write-out .result) (c .before .before .proceed .ensures)
 
 pub turn-spec : {M : Type 1} → statement M
 turn-spec =
