@@ -32,7 +32,7 @@ pub all-below : (n : ℕ) (f : ℕ → Bool) → ((i : ℕ) → i < n → f i �
 all-below zero f h = refl
 all-below (suc n) f h = simp (h n (omega arith)) (all-below n f (λ i l. h i (omega arith)))
 
-pub below-all : (n : ℕ) (f : ℕ → Bool) → allBelow n f ≡ true → (i : ℕ) → i < n → f i ≡ true
+below-all : (n : ℕ) (f : ℕ → Bool) → allBelow n f ≡ true → (i : ℕ) → i < n → f i ≡ true
 below-all zero f e i l = absurd (omega arith)
 below-all (suc n) f e i l =
     let p = and-eq-true-iff (f n) (allBelow n f) .0 e in

@@ -12,7 +12,6 @@ ghost use mathlib.Core.Bool.{true, cond};
 ghost use Prim.Native.Nat.{_+_, _*_, _^_, _≤_, _<_};
 ghost use lib.ListN.{length, take, drop};
 ghost use lib.Seq.{sets};
-ghost use lib.Count.{ones as Count·ones};
 ghost use Rattle.meaning.specs.Sizes.{longestListing, longestChunk};
 ghost use Rattle.segments.specs.Segment.{segmentBytes, payloadBytes, mostSegments, segmentChecks, payloadIn};
 ghost use Rattle.octets.specs.Same.{same as Same·same};
@@ -58,27 +57,12 @@ fn holds(held: u16, place: u8) -> bool
     held / bit(place) % 2 == 1
 }
 
-// How many ones each number of four bits has.
-const ONES: [u8; 16] = [0, 1, 1, 2, 1, 2, 2, 3, 1, 2, 2, 3, 2, 3, 3, 4];
-
-// How many places are held.
-fn ones(held: u16) -> u8
-    ensures { λ r. ⌜ r ≡ Count·ones held ⌝ }
-{
-    let a = (held % 16) as usize;
-    let b = (held / 16 % 16) as usize;
-    let c = (held / 256 % 16) as usize;
-    let d = (held / 4096) as usize;
-    let table = ONES;
-    table[a] + table[b] + table[c] + table[d]
-}
-
-// How many segments are missing, of a slot that holds none above its last number.
+// How many segments are missing, of a slot that holds none above its last number: last + 1 less the number held.
 fn missing(slot: Slot) -> u8
     requires { ⌜ (slot .last < mostSegments) × (slot .held < 2 ^ (slot .last + 1)) ⌝ }
     ensures { λ r. ⌜ r ≡ missingIn slot ⌝ }
 {
-    slot.last + 1 - ones(slot.held)
+    slot.last + 1 - u16::count_ones(slot.held) as u8
 }
 
 // ---- the bytes of a place

@@ -71,11 +71,13 @@ add-t34 c =
     let t = before (c .before .before .before .before .before .before .before .before .before .before .before .before .before .before .before .before .before) in
     record { fits = more-word (a .kind) (now (a .seg)) t (sym (c .before .before .before .before .before .before .before .before .before .before .before .clashes .ensures) ∙ c .before .before .before .before .before .before .before .before .before .before .if1 .left) (sym (c .before .before .before .before .before .before .before .before .holds .ensures) ∙ c .before .before .before .before .before .before .before .if2 .left) _ (c .before .bit .ensures) (c .before .before .before .before .before .before .before .before .before .before .before .before .before .before .before .before .before .pre .0) (c .before .before .before .before .before .before .before .before .before .before .before .before .before .before .before .before .before .pre .1) }
 
+-- of the slot before the segment and of that with it: a count of the wrong one is then refused for the count
 missing-requires-2 : tie.Need-missing-requires-2
 missing-requires-2 c κs =
-    let a = c .before .before .before .before .before .before .before .before .before .before .before .before .before .before .before .before .before .args in
-    let t = before (c .before .before .before .before .before .before .before .before .before .before .before .before .before .before .before .before .before) in
-    more-small (a .kind) (now (a .seg)) t (sym (c .before .before .before .before .before .before .before .before .before .before .before .clashes .ensures) ∙ c .before .before .before .before .before .before .before .before .before .before .if1 .left) (sym (c .before .before .before .before .before .before .before .before .holds .ensures) ∙ c .before .before .before .before .before .before .before .if2 .left) _ (c .before .bit .ensures) (c .before .before .before .before .before .before .before .before .before .before .before .before .before .before .before .before .before .pre .0) (c .before .before .before .before .before .before .before .before .before .before .before .before .before .before .before .before .before .pre .1)
+    let s = c .before .before .before .before .before .before .before .before .before .before .before .before .before .before .before .before .before in
+    let without = slot-numbers (s .args .slot) (now (s .args .bytes)) (s .pre .0) in
+    let more = more-small (s .args .kind) (now (s .args .seg)) (before s) (sym (c .before .before .before .before .before .before .before .before .before .before .before .clashes .ensures) ∙ c .before .before .before .before .before .before .before .before .before .before .if1 .left) (sym (c .before .before .before .before .before .before .before .before .holds .ensures) ∙ c .before .before .before .before .before .before .before .if2 .left) _ (c .before .bit .ensures) (s .pre .0) (s .pre .1) in
+    search needs
 
 same-length-3 : tie.Need-same-length-3
 same-length-3 c = search needs
