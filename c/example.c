@@ -28,7 +28,10 @@ static size_t show(const uint8_t *chunk, size_t length, uint8_t listing[LUKASEMB
     unsigned ensembles;
 
     if (lukasembo_number(answer) != LUKASEMBO_ACCEPTED) {
-        printf("refused, number %d\n", (int)lukasembo_number(answer));
+        printf("refused, number %d", (int)lukasembo_number(answer));
+        if (lukasembo_number(answer) == LUKASEMBO_ENDS_EARLY)
+            printf(" at %zu", lukasembo_offset(answer));
+        printf("\n");
         return 0;
     }
     printf("for %s frame, minor edition %u\n", lukasembo_kind(answer) == LUKASEMBO_THIS ? "this" : "the next", lukasembo_minor(answer));

@@ -14,14 +14,14 @@ enum { INPUT, BUFFER, MEMORIES };
 
 /* The phases, the reader's first, and how many of 1,000 calls each has. */
 enum phase {
-    LENGTHS, HEADS, SOUND, DAMAGED, DAMAGED_MORE, TOO_LONG,
+    LENGTHS, HEADS, SOUND, RAN_OUT, DAMAGED, DAMAGED_MORE, TOO_LONG,
     LISTINGS, LIMITS, BAD_LISTINGS, CUTS, KINDS, LONG_LISTINGS, BAD_LISTINGS_MORE, SAMPLES, PHASES
 };
 static const char *const phase_name[PHASES] = {
-    "lengths", "heads", "sound", "damaged", "damaged more", "too long",
+    "lengths", "heads", "sound", "ran out", "damaged", "damaged more", "too long",
     "listings", "limits", "bad listings", "cuts", "kinds", "long listings", "bad listings more", "samples"
 };
-static const unsigned phase_share[PHASES] = {30, 220, 140, 120, 80, 10, 100, 60, 110, 40, 15, 0, 75, 0};
+static const unsigned phase_share[PHASES] = {30, 160, 120, 80, 120, 80, 10, 100, 60, 110, 40, 15, 0, 75, 0};
 
 struct call {
     int phase;
@@ -54,7 +54,8 @@ static void print_answer(const char *who, uint64_t a)
     if (now.writer)
         printf(", segments %zu\n", lukasembo_segments(a));
     else
-        printf(", kind %u, minor %u, length %zu\n", (unsigned)lukasembo_kind(a), lukasembo_minor(a), lukasembo_length(a));
+        printf(", kind %u, minor %u, length %zu, offset %zu\n", (unsigned)lukasembo_kind(a), lukasembo_minor(a), lukasembo_length(a),
+               lukasembo_offset(a));
 }
 
 const char kept_mark[5] = "LKH1", kept_word[] = "call";
@@ -103,7 +104,7 @@ static uint64_t call_plain(const uint8_t *input, uint8_t *buffer)
     } else {
         const struct plain_read a = plain_read(input, now.n, buffer, now.room);
 
-        return (uint64_t)a.number | (uint64_t)a.kind << 8 | (uint64_t)a.minor << 9 | (uint64_t)a.length << 16;
+        return (uint64_t)a.number | (uint64_t)a.kind << 8 | (uint64_t)a.minor << 9 | (uint64_t)a.length << 16 | (uint64_t)a.at << 32;
     }
 }
 
@@ -348,30 +349,62 @@ static void heads(uint64_t i)
     hold_read(made.bytes, n);
 }
 
-/* Every edition, extension length and kind in turn; answer and listing are known. */
-static void sound(uint64_t i)
+/* Reads made; the answer, if there is room, and what it writes are known. */
+static void hold_known(uint64_t want, const uint8_t *bytes)
 {
-    static struct made listing;
-    const unsigned k = (unsigned)(i % 8192);
-    const struct make_shape shape = {k & 7, k >> 3 & 7, k >> 6 & 7, k >> 9 & 7, k >> 12, 0};
-    uint64_t want;
-
-    any_chunk(&shape, rng_once_in(&rng, 2) ? MAKE_CHUNK : 12 + rng_below(&rng, MAKE_CHUNK - 12));
-    make_stuffing(&rng, &made, any_length(made.n));
-    make_listing(&list, &listing);
-    want = (uint64_t)shape.kind << 8 | (uint64_t)shape.minor << 9 | (uint64_t)listing.n << 16;
     now.writer = 0;
     now.kind = 0;
     now.input = made.bytes;
     now.n = made.n;
     now.room = any_room(&rng, LUKASEMBO_LISTING);
-    if (made.n > MAKE_CHUNK)
-        want = 8;
     if (now.room < LUKASEMBO_LISTING)
         want = 1;
     now.want = &want;
-    now.want_bytes = listing.bytes;
+    now.want_bytes = bytes;
     hold();
+}
+
+/* Every edition, extension length and kind in turn. */
+static void sound(uint64_t i)
+{
+    static struct made listing;
+    const unsigned k = (unsigned)(i % 8192);
+    const struct make_shape shape = {k & 7, k >> 3 & 7, k >> 6 & 7, k >> 9 & 7, k >> 12, 0};
+
+    any_chunk(&shape, rng_once_in(&rng, 2) ? MAKE_CHUNK : 12 + rng_below(&rng, MAKE_CHUNK - 12));
+    make_stuffing(&rng, &made, any_length(made.n));
+    make_listing(&list, &listing);
+    hold_known(made.n > MAKE_CHUNK ? LUKASEMBO_TOO_LONG : (uint64_t)shape.kind << 8 | (uint64_t)shape.minor << 9 | (uint64_t)listing.n << 16,
+               listing.bytes);
+}
+
+/* Where the thing begins, by the list and the shape, that byte n of the list's chunk is in. */
+static size_t thing_with(const struct make_shape *shape, size_t n)
+{
+    size_t at = 0, next = 5 + shape->header;
+    unsigned i = 0, services = 0;
+
+    while (next <= n) {
+        at = next;
+        if (services > 0) {
+            services--;
+            next += 3 + shape->service;
+        } else {
+            services = list.ensemble[i++].services;
+            next += 4 + shape->ensemble;
+        }
+    }
+    return at;
+}
+
+/* A sound chunk, cut before each of its bytes in turn. */
+static void ran_out(uint64_t i)
+{
+    const struct make_shape shape = make_shape(&rng);
+
+    any_chunk(&shape, rng_once_in(&rng, 2) ? MAKE_CHUNK : 12 + rng_below(&rng, 100));
+    made.n = (size_t)(i % made.n);
+    hold_known(LUKASEMBO_ENDS_EARLY | (uint64_t)thing_with(&shape, made.n) << 32, NULL);
 }
 
 /* times 0: two to five. */
@@ -571,10 +604,14 @@ static void samples(void)
         {"", 9, ""},
         {"40", 9, ""},
         {"40 03", 5, ""},
-        {"00 03 01 23 01", 9, ""},
+        {"00 03 01 23 01", (uint64_t)5 << 32 | 9, ""},
         {"00 03 01 23 01 05 E1 83 01 0A 01 E6", 9 << 16 | 1 << 8, unknown},
-        {"00 03 01 23 01 05 E1 83 01 0A 01", 9, ""},
-        {"00 03 01 23 01 05 E0 83 01 0A 01", 9, ""},
+        {"00 03 01 23 01 05 E1 83 01 0A 01", (uint64_t)9 << 32 | 9, ""},
+        {"00 03 01 23 01 05 E0 83 01 0A 01", (uint64_t)9 << 32 | 9, ""},
+        {"00 03", 9, ""},
+        {"07 03 01 23 00 00 00 00 00 00", 9, ""},
+        {"02 03 01 23 00 00 01 05 E0", (uint64_t)7 << 32 | 9, ""},
+        {"02 07 01 23 00 00 01 05 E0 83 03 0A 01 E6 DD 0A 02 E6", (uint64_t)15 << 32 | 9, ""},
     };
     uint8_t input[64], want[64];
     size_t i, n;
@@ -622,6 +659,7 @@ static void run_phase(int phase, uint64_t n)
         case LENGTHS: lengths(i); break;
         case HEADS: heads(i); break;
         case SOUND: sound(i); break;
+        case RAN_OUT: ran_out(i); break;
         case DAMAGED: damaged(i, 1); break;
         case DAMAGED_MORE: damaged(i, 0); break;
         case TOO_LONG: too_long(i); break;

@@ -76,7 +76,7 @@ enum lukasembo_number {
     LUKASEMBO_SHORT_BUFFER = 1,   /* R W T: a listing buffer under LUKASEMBO_LISTING bytes, an output under LUKASEMBO_OUTPUT, LUKASEMBO_UNWRAPPED */
     LUKASEMBO_OTHER_MAJOR = 5,    /* R: the major version is not 0 */
     LUKASEMBO_TOO_LONG = 8,       /* R: a chunk over LUKASEMBO_CHUNK bytes */
-    LUKASEMBO_ENDS_EARLY = 9,     /* R: a chunk ends too early */
+    LUKASEMBO_ENDS_EARLY = 9,     /* R: a chunk ends too early; lukasembo_offset tells where it ran out */
     LUKASEMBO_BAD_LISTING = 13,   /* W: marks, counts and length do not agree, a field is over its limit, or there is an EU */
     LUKASEMBO_TOO_MANY = 14,      /* W: the chunk, 5 + 4 x ensembles + 3 x services bytes, would be over LUKASEMBO_CHUNK */
     LUKASEMBO_BAD_STORE = 15,     /* S: an unknown mark, a record that is cut short, or a length outside the limits */
@@ -101,14 +101,19 @@ enum {
 
 /* An answer is one number; these take it apart. */
 
-/* where it is not LUKASEMBO_ACCEPTED, all else is 0, but LUKASEMBO_BAD_OFFSET has a gap and what is lost */
+/* where it is not LUKASEMBO_ACCEPTED, all else is 0, but LUKASEMBO_ENDS_EARLY has its offset, and LUKASEMBO_BAD_OFFSET a gap and what is lost */
 static inline enum lukasembo_number lukasembo_number(uint64_t answer) { return (enum lukasembo_number)(answer & 0xFF); }
 
 /* of the reader: the frame that the list is for, the chunk's minor edition (0 to 7), and the length of the listing; the last is also, of the reader of a
  * store, the length of the packet, or 0 at the end */
 static inline enum lukasembo_kind lukasembo_kind(uint64_t answer) { return (enum lukasembo_kind)(answer >> 8 & 1); }
 static inline unsigned lukasembo_minor(uint64_t answer) { return (unsigned)(answer >> 9 & 7); }
-static inline size_t lukasembo_length(uint64_t answer) { return (size_t)(answer >> 16); }
+static inline size_t lukasembo_length(uint64_t answer) { return (size_t)(answer >> 16 & 0xFFFF); }
+
+/* of the reader, with LUKASEMBO_ENDS_EARLY: the offset in the chunk of the first thing that does not fit whole, which is the header (0, also of a chunk of
+ * 0 or 1 byte), the fields of an ensemble, or a single service, each with its extension bytes. All before it is there; it is at most the chunk's length.
+ * With any other number it is 0 */
+static inline size_t lukasembo_offset(uint64_t answer) { return (size_t)(answer >> 32); }
 
 /* of the writer: how many segments of LUKASEMBO_SEGMENT bytes */
 static inline size_t lukasembo_segments(uint64_t answer) { return (size_t)(answer >> 16); }

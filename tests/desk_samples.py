@@ -42,12 +42,12 @@ class Bench(Desk):
         if m < LONGEST or n < LONGEST:
             return self.line(f"{name}: 1", True)
         number, text = self.segment(segment)
-        text = text.split("\n")[0]
+        text = f"{number} {text}".rstrip() if number else text.split("\n")[0]
         if text.startswith("list"):
             kind = text.split()[1]
             listing = self.listing[kind]
             self.lent[self.swapped ^ (kind == "next")][:len(listing)] = listing
-        return self.line(f"{name}: {text or number}")
+        return self.line(f"{name}: {text}")
 
     def fresh(self):
         self.swapped, self.good = False, True

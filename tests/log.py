@@ -42,7 +42,7 @@ class Desk:
         self.listing = {"this": self.listing["next"], "next": b""}
 
     def segment(self, segment):
-        """The answer: the refusal's number and "", or 0 and what the log says of an accepted segment."""
+        """The answer: its number, which is 0 if the segment is accepted, and what the log says behind that."""
         if len(segment) != 37:
             return 2, ""
         head, payload = int.from_bytes(segment[:2], "big"), segment[2:]
@@ -65,9 +65,9 @@ class Desk:
         missing = last + 1 - len(slot.held)
         if repeat or missing:
             return 0, f"missing {missing}"
-        refusal, chunk_kind, _, listing = read(b"".join(slot.held[i] for i in range(last + 1)), ROOM)
+        refusal, chunk_kind, _, listing, at = read(b"".join(slot.held[i] for i in range(last + 1)), ROOM)
         if refusal:
-            return refusal, ""
+            return refusal, f"at {at}" if refusal == 9 else ""
         if chunk_kind != kind:
             return 10, ""
         self.listing[kind] = listing

@@ -17,7 +17,7 @@ sys.dont_write_bytecode = True
 
 from log import transcript
 from night import long_night
-from pieces import Dice, bent, chance, chunk, cut, fr, gives, listing, miss, no, ones, plain, sent, turned, zeros
+from pieces import Dice, bent, chance, chunk, cut, fr, gives, listing, miss, no, ones, plain, sent, turned, wait, zeros
 
 CRATES = pathlib.Path(__file__).resolve().parent.parent / "crates"
 SAMPLE = bytes.fromhex("5347 3000 0002012301 05E08301 0A01E6" + 23 * "FF" + "4652 4652")
@@ -29,7 +29,7 @@ FR none
 END 0
 """
 SHAPES = ["GA", "FR none", "FR n", "SG 0 missing n", "SG 0 missing 0", "SG 0 list this n", "SG 0 list next n",
-          "SG 3", "SG 4", "SG 5", "SG 6", "SG 7", "SG 9", "SG 10", "END 0", "END 15"]
+          "SG 3", "SG 4", "SG 5", "SG 6", "SG 7", "SG 9 at n", "SG 10", "END 0", "END 15"]
 GA, NONE = [(b"GA", "GA")], [(b"FR", "FR none")]
 # A and B bring TWO for this frame, C and D for the next; ONLY and SPARE bring ONE, in a single piece
 ONE, TWO, LONG = plain(1), plain(10), plain(183, 0xFEDC)
@@ -63,14 +63,15 @@ def refusals():
     for other in ONLY, bent(A, 0x0002), bent(B, 0x000E):
         steps += miss(1, A) + no(7, other, B, A, other) + NONE + sent(TWO, "this") + GA
     # by a completed chunk: it's held and complete, so repeats lack 0. Of either kind, since 10 comes last. Stuffing is FF
-    for number, text in [(5, "4003012300"), (5, "8002"), (5, "C003" + 33 * "00"), (9, "000301230105E083FF"), (9, "00030123FF" + 30 * "00"),
-                         (9, "00030123010501"), (9, "00030123FF"), (9, "000201230205E0830006F0"), (10, None)]:
+    for number, text in [(5, "4003012300"), (5, "8002"), (5, "C003" + 33 * "00"), ("9 at 33", "000301230105E083FF"),
+                         ("9 at 33", "00030123FF" + 30 * "00"), ("9 at 33", "00030123010501"), ("9 at 33", "00030123FF"),
+                         ("9 at 34", "000201230205E0830006F0"), (10, None)]:
         for kind, differs in ("this", "0002012300"), ("next", "0003012300"):
             record, = cut(bytes.fromhex(text or differs), kind)
             steps += GA + no(number, record) + miss(0, record, bent(record, 0x1000)) + no(7, bent(record, 0, 1), record)
     # the same in two pieces, and the list from before stays; with 1 for the last ensemble's version the chunk is listed
     good, trial = chunk((1, plain(8)[1] + [(6, 0, 0, [])]), "next"), (1, plain(8)[1] + [(6, 0, 0, [], 1)])
-    for number, at, mask in (5, 0, 0x40), (None, 34, 1), (9, 36, 255), (10, 1, 1):
+    for number, at, mask in (5, 0, 0x40), (None, 34, 1), ("9 at 70", 36, 255), (10, 1, 1):
         first, second = cut(turned(good, at, mask), "next")
         steps += GA + sent(ONE, "next") + GA + miss(1, second, second)
         steps += no(number, first) if number else gives(trial, "next", first)
@@ -141,15 +142,15 @@ def trial_ensembles():
     for what in three, most:
         steps += sent(what, "this") + sent(what, "next", order=lambda pieces: pieces[::-1]) + fr(what) + NONE
     # the last one unknown, in one segment or two, without stuffing: its fields cut, its services cut, or all of it there
-    for n, services, e, s in (8, 0, 0, 0), (5, 0, 2, 1), (4, 3, 2, 0), (4, 2, 2, 0), (20, 0, 0, 0), (19, 1, 0, 0), (19, 0, 0, 0):
+    for n, services, e, s, at in [(8, 0, 0, 0, 33), (5, 0, 2, 1, 31), (4, 3, 2, 0, 35), (4, 2, 2, 0, None), (20, 0, 0, 0, 69),
+                                  (19, 1, 0, 0, 70), (19, 0, 0, 0, None)]:
         what = ts, plain(n)[1] + [(6, 7, 31, plain(services)[1][0][3], 16)]
         for kind, of in itertools.product(("this", "next"), repeat=2):
             data = chunk(what, of, e=e, s=s)
-            over = len(data) % 35
-            *first, last = cut(data[:len(data) - over], kind)
+            *first, last = cut(data[:len(data) // 35 * 35], kind)
             steps += sent(ONE, "next") + GA + miss(1, *first)
-            steps += no(9, last) if over else no(10, last) if of != kind else gives(what, kind, last)
-            steps += miss(0, *first, last) + fr(ONE if over or of != kind or kind == "this" else what)
+            steps += no(f"9 at {at}", last) if at else no(10, last) if of != kind else gives(what, kind, last)
+            steps += miss(0, *first, last) + fr(ONE if at or of != kind or kind == "this" else what)
     # reserved bits of any sort beside a version; with 0 it's a good ensemble
     for bits in 0, 255, *range(32, 255, 32):
         for version in [], [1], [16], [31]:
@@ -162,6 +163,28 @@ def trial_ensembles():
             steps += sent(what, kind, dice.shuffled, dice, minor=dice(8), h=dice(8), e=dice(8), s=dice(8))
         steps += fr(what)
     return steps + NONE
+
+
+def ran_out():
+    # a chunk ends in its second ensemble, with so many bytes there of its fields or of the first, middle or last of its services: the
+    # first one's services and h see to that. Of one kind the second is unknown, of the other the first. The list from before stays
+    dice, steps, unknown = Dice(5), [], itertools.cycle([1, 0, 0, 1])
+    for pieces, e, s in (1, 0, 0), (1, 3, 2), (2, 2, 1), (16, 0, 0), (16, 7, 5):
+        sizes = [4 + e] + 3 * [3 + s]
+        for i, size in enumerate(sizes):
+            steps += sent(ONE, "next")
+            for there in range(size) if pieces < 16 else [size - 1]:
+                at = 35 * pieces - there
+                services, h = divmod(at - sum(sizes[:i]) - (5 + 4 + e), 3 + s)
+                steps += GA
+                for kind, order in ("this", 1), ("next", -1):
+                    ensembles = plain(services)[1] + [(6, 7, 31, plain(3)[1][0][3])]
+                    ensembles[next(unknown)] += 1 + dice(31),
+                    data = chunk((0x0123, ensembles), kind, dice(8), h, e, s, dice)
+                    *before, last = cut(data[:35 * pieces], kind, dice)[::order]
+                    steps += wait(*before) + no(f"9 at {at}", last) + miss(0, last, *before[:1])
+            steps += fr(ONE)
+    return steps
 
 
 def gatherings():
@@ -199,7 +222,8 @@ def record_by_record():
 def main():
     some = sent(ONE, "next") + miss(1, A) + fr(ONE) + miss(1, A)
     logs = {"sample": sent(ONE, "next") + fr(ONE) + NONE}
-    logs |= {make.__name__: make() for make in (worked, refusals, slips, interleaved, clash_after_list, shorter_list, trial_ensembles)}
+    logs |= {make.__name__: make() for make in (worked, refusals, slips, interleaved, clash_after_list, shorter_list, trial_ensembles,
+                                                ran_out)}
     tails = {"mark_cut": b"S", "mark_cut_f": b"F", "segment_cut": B[:38], "segment_bare": b"SG", "unknown_mark": b"XXFR",
              "unknown_f": b"FG" + B[2:], "unknown_g": b"GRFR"}
     logs |= {name: some + [(tail, "END 15")] for name, tail in tails.items()}
@@ -216,7 +240,7 @@ def main():
         (CRATES / "log_samples/data" / name).write_bytes(data)
         status = text.split()[-1]
         output += "".join(f"{name}, blocks of {size}\n{text}status {status}\n" for size in (39, 65536))
-        counts.update(re.sub(r"(FR|missing|list \w+) [1-9]\d*$", r"\1 n", line) for line in text.splitlines() if line[:4] != "5453")
+        counts.update(re.sub(r"(FR|missing|list \w+|at) [1-9]\d*$", r"\1 n", line) for line in text.splitlines() if line[:4] != "5453")
         print(f"{name:16} {len(steps) - early:5} records {len(data):6} bytes, prints {len(text):6}")
         if name == "sample":
             assert (data, text) == (SAMPLE, SAMPLE_PRINTS)

@@ -91,6 +91,7 @@ def bent(record, head, tail=0):
 
 
 def no(number, *records):
+    """Refused; of number 9 with its offset, as in "9 at 33"."""
     return [(record, f"SG {number}") for record in records]
 
 
@@ -102,10 +103,15 @@ def gives(what, kind, record):
     return [(record, f"SG 0 list {kind} {len(listing(what))}\n{listing(what).hex()}")]
 
 
+def wait(*records):
+    """All pieces but the last to come, each once, to an empty slot."""
+    return [step for i, record in enumerate(records) for step in miss(len(records) - i, record)]
+
+
 def sent(what, kind, order=list, noise=ones, **dress):
     """The whole list, each piece once, to an empty slot."""
     *before, last = order(cut(chunk(what, kind, noise=noise, **dress), kind, noise))
-    return [step for i, record in enumerate(before) for step in miss(len(before) - i, record)] + gives(what, kind, last)
+    return wait(*before) + gives(what, kind, last)
 
 
 def fr(what):

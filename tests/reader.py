@@ -7,43 +7,46 @@ import struct
 
 
 def read(chunk, room):
-    """The reader's answer: (number, kind, minor, listing)."""
+    """The reader's answer: (number, kind, minor, listing, at), at being for number 9 where the first thing that doesn't fit begins."""
+    def refused(number, at=0):
+        return number, None, 0, b"", at
     if room < 1292:
-        return 1, None, 0, b""
+        return refused(1)
     if len(chunk) > 560:
-        return 8, None, 0, b""
+        return refused(8)
     if len(chunk) < 2:
-        return 9, None, 0, b""
+        return refused(9)
     head = int.from_bytes(chunk[:2], "big")
     if head >> 14:
-        return 5, None, 0, b""
+        return refused(5)
     minor, h, e, s, current = head >> 11 & 7, head >> 8 & 7, head >> 5 & 7, head >> 2 & 7, head & 1
     if len(chunk) < 5 + h:
-        return 9, None, 0, b""
-    out = b"TS" + chunk[2:4] + chunk[4 + h:5 + h]
-    rest = chunk[5 + h:]
+        return refused(9)
+    out, at = b"TS" + chunk[2:4] + chunk[4 + h:5 + h], 5 + h
     for _ in range(chunk[4 + h]):
-        if len(rest) < 4 + e:
-            return 9, None, 0, b""
-        ident, version, bits, count = rest[0], rest[1] & 31, rest[2], rest[3 + e]
-        rest = rest[4 + e:]
-        if len(rest) < count * (3 + s):
-            return 9, None, 0, b""
-        services, rest = rest[:count * (3 + s)], rest[count * (3 + s):]
-        # what is inside an unknown ensemble is walked over
-        if version:
-            out += b"EU" + bytes([ident, version])
-            continue
-        out += b"EN" + bytes([ident, bits >> 5, bits & 31, count])
-        for at in range(0, len(services), 3 + s):
-            ident, bits = struct.unpack(">HB", services[at:at + 3])
-            out += b"SV" + struct.pack(">HBBB", ident, bits >> 3 & 3, bits >> 1 & 3, bits & 1)
-    return 0, "this" if current else "next", minor, out
+        fields = chunk[at:at + 4 + e]
+        if len(fields) < 4 + e:
+            return refused(9, at)
+        ident, version, bits, count = fields[0], fields[1] & 31, fields[2], fields[3 + e]
+        out += b"EU" + bytes([ident, version]) if version else b"EN" + bytes([ident, bits >> 5, bits & 31, count])
+        at += 4 + e
+        for _ in range(count):
+            service = chunk[at:at + 3 + s]
+            if len(service) < 3 + s:
+                return refused(9, at)
+            ident, bits = struct.unpack(">HB", service[:3])
+            # those of an unknown ensemble are walked over
+            if not version:
+                out += b"SV" + struct.pack(">HBBB", ident, bits >> 3 & 3, bits >> 1 & 3, bits & 1)
+            at += 3 + s
+    return 0, "this" if current else "next", minor, out, 0
 
 
 def show(name, chunk, room=1292):
-    number, kind, minor, listing = read(chunk, room)
+    number, kind, minor, listing, at = read(chunk, room)
     words = [name, str(number)]
+    if number == 9:
+        words += ["at", str(at)]
     if not number:
         words += [kind, str(minor), str(len(listing)), listing.hex()]
     print(*words, "kept")
@@ -74,7 +77,7 @@ def main():
         ("an ensemble short", "0003012301"), ("version 1", "0003012301 05E18301 0A01E6"), ("first, cut", FIRST[:-1].hex()),
         ("kind next", "0002012301 05E08301 0A01E6"), ("reserved bits zeros", "0001012301 05008301 0A0106"),
         ("all flags, channel 31, multi 3, SP", "0003FFFE01 FFE0FF01 1234FF"), ("major 3, header cut", "C70301"),
-        ("header cut in its extension", "07030123 00000000000000"), ("header and its extension", "07030123 0000000000000000"),
+        ("header cut in its extension", "07030123 000000000000"), ("header and its extension", "07030123 0000000000000000"),
         ("version 1, no room for its services", "0003012301 05E183FF"), ("version 1, fields cut", "0003012301 05E183"),
         ("version 1, services cut", "0003012301 05E18301 0A01"), ("version 1, reserved bits zeros", "0003012301 05018300"),
         ("second ensemble of version 31", "0003012302 05E08300 06FF0000"),
@@ -82,6 +85,11 @@ def main():
         ("a trial ensemble between two", "01470123AA03 05E083BBCC01 0A01E6DD 06E1FFBBCC02 0B01E6DD 0B02E6DD 07E003BBCC00"),
         ("all ensembles unknown", "0003012303 05E18300 06E20001 0B01E6 07FF0000"),
         ("second ensemble cut", "0003012302 05E08300 06E000"), ("255 ensembles", "00030123FF 05E08300 06E00000"),
+        ("header cut after its flags", "0003"), ("header cut before its count", "0703012300000000000000"),
+        ("h 3, ensemble's fields cut", "030301230000000105E0"), ("h 3, e 2, first service cut", "034301230000000105E083000002 0A"),
+        ("h 2, s 1, a middle service cut", "020701230000 0105E08303 0A01E6DD 0A02E6"),
+        ("s 7, the last service cut in its extension", "001F01230105E08302 0A01E600000000000000 0A02E6000000000000"),
+        ("second of version 9, its second service cut", "0003012302 05E08301 0A01E6 06E98302 0B01E6 0B02"),
     ]:
         show(name, bytes.fromhex(text))
     one = header(0, 0, 0, 1) + ensemble(5, 0, 0, 183)

@@ -14,9 +14,9 @@ struct chunk_facts {
     size_t length;   /* of the listing */
 };
 
-/* The reader's checks from 8 on. Writes nothing but the facts, and those
-   only where it answers 0. */
-static int check_chunk(const uint8_t *chunk, size_t n, struct chunk_facts *facts)
+/* The reader's checks from 8 on. Writes nothing but the facts, where it answers
+   0, and *ran_out, where it answers 9: the offset of what does not fit whole. */
+static int check_chunk(const uint8_t *chunk, size_t n, struct chunk_facts *facts, size_t *ran_out)
 {
     struct chunk_facts f;
     size_t left, length;
@@ -25,8 +25,10 @@ static int check_chunk(const uint8_t *chunk, size_t n, struct chunk_facts *facts
 
     if (n > PLAIN_CHUNK)
         return 8;
-    if (n < 2)
+    if (n < 2) {
+        *ran_out = 0;
         return 9;
+    }
     if (chunk[0] >> 6 != 0)
         return 5;
     f.minor = chunk[0] >> 3 & 7u;
@@ -34,8 +36,10 @@ static int check_chunk(const uint8_t *chunk, size_t n, struct chunk_facts *facts
     f.ensemble = 4u + (chunk[1] >> 5);
     f.service = 3u + (chunk[1] >> 2 & 7u);
     f.kind = chunk[1] & 1u;
-    if (n < f.header)
+    if (n < f.header) {
+        *ran_out = 0;
         return 9;
+    }
 
     ensembles = chunk[f.header - 1];
     at = chunk + f.header;
@@ -44,15 +48,19 @@ static int check_chunk(const uint8_t *chunk, size_t n, struct chunk_facts *facts
     for (; ensembles > 0; ensembles--) {
         size_t services, loop;
 
-        if (left < f.ensemble)
+        if (left < f.ensemble) {
+            *ran_out = n - left;
             return 9;
+        }
         services = at[f.ensemble - 1];
         length += (at[1] & 0x1F) == 0 ? 6 + 7 * services : 4; /* EN with its SVs, or EU */
         at += f.ensemble;
         left -= f.ensemble;
         loop = services * f.service;
-        if (left < loop)
+        if (left < loop) {
+            *ran_out = n - left % f.service; /* behind those that fit whole */
             return 9;
+        }
         at += loop;
         left -= loop;
     }
@@ -114,16 +122,19 @@ static void list_chunk(const uint8_t *chunk, const struct chunk_facts *facts, ui
 
 struct plain_read plain_read(const uint8_t *chunk, size_t n, uint8_t *buffer, size_t room)
 {
-    struct plain_read answer = {0, 0, 0, 0};
+    struct plain_read answer = {0, 0, 0, 0, 0};
     struct chunk_facts facts;
+    size_t ran_out = 0;
 
     if (room < PLAIN_LISTING) {
         answer.number = 1;
         return answer;
     }
-    answer.number = check_chunk(chunk, n, &facts);
-    if (answer.number != 0)
+    answer.number = check_chunk(chunk, n, &facts, &ran_out);
+    if (answer.number != 0) {
+        answer.at = ran_out;
         return answer;
+    }
     list_chunk(chunk, &facts, buffer);
     answer.kind = (int)facts.kind;
     answer.minor = (int)facts.minor;
@@ -326,7 +337,7 @@ void plain_frame(struct plain_desk *desk)
 
 static struct plain_answer refused(int number)
 {
-    struct plain_answer answer = {0, 0, 0, 0, 0};
+    struct plain_answer answer = {0, 0, 0, 0, 0, 0};
 
     answer.number = number;
     return answer;
@@ -334,7 +345,7 @@ static struct plain_answer refused(int number)
 
 static struct plain_answer still_missing(const struct plain_slot *slot)
 {
-    struct plain_answer answer = {0, 0, 0, 0, 0};
+    struct plain_answer answer = {0, 0, 0, 0, 0, 0};
 
     answer.missing = slot->last + 1u - ones(slot->held);
     return answer;
@@ -344,16 +355,18 @@ static struct plain_answer still_missing(const struct plain_slot *slot)
 static struct plain_answer read_slot(struct plain_desk *desk, unsigned kind,
                                      uint8_t *first, uint8_t *second)
 {
-    struct plain_answer answer = {0, 0, 0, 0, 0};
+    struct plain_answer answer = {0, 0, 0, 0, 0, 0};
     const struct plain_slot *slot = &desk->slot[kind];
     /* This frame has the first buffer unless swapped, the next the other. */
     uint8_t *buffer = (kind == 1) == (desk->swapped == 0) ? first : second;
     struct chunk_facts facts;
-    int number;
+    size_t ran_out = 0;
 
-    number = check_chunk(slot->bytes, PLAIN_PAYLOAD * (slot->last + 1u), &facts);
-    if (number != 0)
-        return refused(number);
+    answer.number = check_chunk(slot->bytes, PLAIN_PAYLOAD * (slot->last + 1u), &facts, &ran_out);
+    if (answer.number != 0) {
+        answer.at = ran_out;
+        return answer;
+    }
     if (facts.kind != kind)
         return refused(10);
     list_chunk(slot->bytes, &facts, buffer);

@@ -1,4 +1,4 @@
-/* FIC chunks, segments and the desk of document 01, with 02's unknown ensembles, in plain C11. */
+/* FIC chunks, segments and the desk of document 01, with 02's unknown ensembles and offsets, in plain C11. */
 #ifndef PLAIN_H
 #define PLAIN_H
 
@@ -18,11 +18,16 @@ enum {
    than 0 is taken for "this". Memory that is lent to be written must not
    overlap other memory of the same call. A pointer with length 0 may be null. */
 
+/* In both answers, at is of number 9: the offset in the chunk of the first thing
+   that does not fit whole; else 0. A thing is the header, an ensemble's fields
+   or a single service, each with its extension bytes. */
+
 struct plain_read {
-    int number; /* 0 where accepted; on refusal the rest is 0 */
+    int number; /* 0 where accepted; on refusal the rest but at is 0 */
     int kind;
     int minor;
     size_t length;
+    size_t at;
 };
 
 struct plain_write {
@@ -46,11 +51,12 @@ struct plain_desk {
 };
 
 struct plain_answer {
-    int number; /* 0 where accepted; on refusal the rest is 0 */
+    int number; /* 0 where accepted; on refusal the rest but at is 0 */
     int listed; /* 1: kind and length say which listing; 0: missing counts */
     int kind;
     size_t missing;
     size_t length;
+    size_t at;
 };
 
 /* Reads a chunk; the listing goes to the start of buffer. An ensemble of a

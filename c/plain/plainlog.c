@@ -65,7 +65,10 @@ static void do_segment(struct output *out, struct table *table, const uint8_t *s
                                                       table->first, PLAIN_LISTING,
                                                       table->second, PLAIN_LISTING);
 
-    if (answer.number != 0) {
+    if (answer.number == 9) {
+        put_text(out, "SG 9 at ");
+        put_number(out, answer.at, '\n');
+    } else if (answer.number != 0) {
         put_text(out, "SG ");
         put_number(out, (size_t)answer.number, '\n');
     } else if (answer.listed) {

@@ -25,6 +25,8 @@ static const uint8_t list1[] = {0x54, 0x53, 0x01, 0x23, 0x01, 0x45, 0x4E, 0x05, 
                                 0x53, 0x56, 0x0A, 0x01, 0x00, 0x03, 0x00};
 static const uint8_t list3[] = {0x54, 0x53, 0x01, 0x23, 0x00};
 static const uint8_t list_unknown[] = {0x54, 0x53, 0x01, 0x23, 0x01, 0x45, 0x55, 0x05, 0x01};
+/* Where the header, the ensemble's fields and the service of the first two begin, and their end. */
+static const size_t starts1[] = {0, 5, 9, 12}, starts2[] = {0, 6, 12, 15};
 
 /* Reads from memory of exactly n bytes; the listing expected, or a number. */
 static struct plain_read exact_read(const uint8_t *chunk, size_t n, uint8_t *buffer)
@@ -40,6 +42,7 @@ static struct plain_read exact_read(const uint8_t *chunk, size_t n, uint8_t *buf
     CHECK(all(buffer + r.length, PLAIN_LISTING - r.length, 0xA5));
     if (r.number != 0)
         CHECK(r.kind == 0 && r.minor == 0 && r.length == 0);
+    CHECK(r.number == 9 ? r.at <= n : r.at == 0);
     return r;
 }
 
@@ -59,6 +62,33 @@ static int refuses(const uint8_t *chunk, size_t n, int number)
     return exact_read(chunk, n, buffer).number == number;
 }
 
+static int runs_out(const uint8_t *chunk, size_t n, size_t at)
+{
+    uint8_t buffer[PLAIN_LISTING];
+    struct plain_read r = exact_read(chunk, n, buffer);
+
+    return r.number == 9 && r.at == at;
+}
+
+/* Where the thing begins that byte n is in; starts has them all in order, and
+   the chunk's end. */
+static size_t start_of(const size_t *starts, size_t n)
+{
+    while (starts[1] <= n)
+        starts++;
+    return starts[0];
+}
+
+/* Checks the chunk cut to each length: what does not fit whole is the thing
+   that the first byte cut off is in. */
+static void cuts(const uint8_t *chunk, size_t whole, const size_t *starts)
+{
+    size_t n;
+
+    for (n = 0; n < whole; n++)
+        CHECK(runs_out(chunk, n, start_of(starts, n)));
+}
+
 static void reader_samples(void)
 {
     uint8_t c[PLAIN_CHUNK + 1], buffer[PLAIN_LISTING];
@@ -67,15 +97,22 @@ static void reader_samples(void)
     CHECK(reads(chunk1, LEN(chunk1), 1, 0, list1, LEN(list1)));
     CHECK(reads(chunk2, LEN(chunk2), 1, 1, list1, LEN(list1)));
     CHECK(reads(chunk3, LEN(chunk3), 1, 0, list3, LEN(list3)));
-    CHECK(refuses(chunk3, 4, 9));
-    CHECK(refuses(NULL, 0, 9));
-    CHECK(refuses(chunk4, 1, 9));
+    CHECK(runs_out(chunk3, 4, 0));
+    CHECK(runs_out(NULL, 0, 0));
+    CHECK(runs_out(chunk4, 1, 0));
     CHECK(refuses(chunk4, 2, 5));
-    CHECK(refuses(chunk5, 5, 9));
-    for (n = 0; n < LEN(chunk1); n++)
-        CHECK(refuses(chunk1, n, 9));
-    for (n = 0; n < LEN(chunk2); n++)
-        CHECK(refuses(chunk2, n, 9));
+    CHECK(runs_out(chunk5, 5, 5));
+    CHECK(runs_out(chunk1, 11, 9));
+    cuts(chunk1, LEN(chunk1), starts1);
+    cuts(chunk2, LEN(chunk2), starts2);
+
+    /* A header of 12 bytes, and an ensemble that is not there: the flags alone,
+       cut in the extension, the extension without the count, all of it. */
+    memset(c, 1, sizeof c);
+    c[0] = 0x07;
+    for (n = 2; n < 12; n++)
+        CHECK(runs_out(c, n, 0));
+    CHECK(runs_out(c, 12, 12));
 
     /* Kind next; reserved bits as zeros; stuffing of any content. */
     memset(c, 0x5A, sizeof c);
@@ -94,6 +131,8 @@ static void reader_samples(void)
     memset(buffer, 0xA5, sizeof buffer);
     CHECK(plain_read(c, PLAIN_CHUNK + 1, buffer, PLAIN_LISTING - 1).number == 1);
     CHECK(plain_read(chunk1, LEN(chunk1), buffer, PLAIN_LISTING - 1).number == 1);
+    CHECK(plain_read(chunk1, 11, buffer, PLAIN_LISTING - 1).number == 1);
+    CHECK(plain_read(chunk1, 11, buffer, PLAIN_LISTING - 1).at == 0);
     CHECK(plain_read(NULL, 0, NULL, 0).number == 1);
     CHECK(all(buffer, sizeof buffer, 0xA5));
     CHECK(plain_read(chunk1, LEN(chunk1), buffer, PLAIN_LISTING).number == 0);
@@ -110,13 +149,12 @@ static void unknown_samples(void)
                                    0x45, 0x4E, 0x05, 0x04, 0x03, 0x01, 0x53, 0x56, 0x0A, 0x01, 0x00, 0x03, 0x00,
                                    0x45, 0x55, 0x06, 0x1F,
                                    0x45, 0x4E, 0x07, 0x01, 0x05, 0x00};
+    static const size_t starts[] = {0, 5, 11, 15, 21, 25, 29, 35};
     uint8_t c[PLAIN_CHUNK + 1], l[PLAIN_LISTING];
     unsigned i;
-    size_t n;
 
     CHECK(reads(between, LEN(between), 0, 0, list, LEN(list)));
-    for (n = 0; n < LEN(between); n++)
-        CHECK(refuses(between, n, 9));
+    cuts(between, LEN(between), starts);
 
     /* The unknown one last; what follows it is stuffing. */
     memcpy(c, between, LEN(between));
@@ -124,8 +162,7 @@ static void unknown_samples(void)
     c[4] = l[4] = 2;
     CHECK(reads(c, LEN(between), 0, 0, l, 22));
     CHECK(reads(c, 29, 0, 0, l, 22));
-    for (n = 0; n < 29; n++)
-        CHECK(refuses(c, n, 9));
+    cuts(c, 29, starts);
 
     /* Every version, with every value of the reserved bits. */
     memcpy(c, chunk1, LEN(chunk1));
@@ -137,8 +174,7 @@ static void unknown_samples(void)
             CHECK(reads(c, LEN(chunk1), 1, 0, list1, LEN(list1)));
         else
             CHECK(reads(c, LEN(chunk1), 1, 0, l, LEN(list_unknown)));
-        for (n = 0; n < LEN(chunk1); n++)
-            CHECK(refuses(c, n, 9));
+        cuts(c, LEN(chunk1), starts1);
     }
 
     /* As many as there is room for, none with services; one more. */
@@ -152,22 +188,22 @@ static void unknown_samples(void)
     l[2] = l[3] = 0;
     CHECK(reads(c, 557, 0, 0, l, 557));
     CHECK(reads(c, PLAIN_CHUNK, 0, 0, l, 557));
-    CHECK(refuses(c, 556, 9));
+    CHECK(runs_out(c, 556, 553));
     c[4] = 139;
-    CHECK(refuses(c, PLAIN_CHUNK, 9));
+    CHECK(runs_out(c, PLAIN_CHUNK, 557));
 
     /* One, with as many services as there is room for; one more; 255. */
     c[4] = l[4] = 1;
     c[8] = 183;
     CHECK(reads(c, 558, 0, 0, l, 9));
-    CHECK(refuses(c, 557, 9));
+    CHECK(runs_out(c, 557, 555));
     c[8] = 184;
-    CHECK(refuses(c, PLAIN_CHUNK, 9));
+    CHECK(runs_out(c, PLAIN_CHUNK, 558));
     c[8] = 255;
-    CHECK(refuses(c, PLAIN_CHUNK, 9));
+    CHECK(runs_out(c, PLAIN_CHUNK, 558));
 }
 
-/* ---- The reader against a slow one that goes bit by bit ---- */
+/* ---- The reader against a slow one that goes bit by bit, and thing by thing ---- */
 
 struct bits {
     const uint8_t *p;
@@ -187,7 +223,7 @@ static unsigned unknown; /* ensembles of this sort that the last slow_read came 
 
 static struct plain_read slow_read(const uint8_t *chunk, size_t n, uint8_t *list)
 {
-    struct plain_read no = {9, 0, 0, 0}, yes = {0, 0, 0, 0};
+    struct plain_read no = {9, 0, 0, 0, 0}, yes = {0, 0, 0, 0, 0};
     struct bits b = {chunk, 8 * n, 0};
     unsigned h, e, s, ens, k, flags;
     size_t to = 0;
@@ -216,6 +252,7 @@ static struct plain_read slow_read(const uint8_t *chunk, size_t n, uint8_t *list
     for (; ens > 0; ens--) {
         unsigned id, version, count;
 
+        no.at = b.at / 8;
         if (b.n - b.at < 8 * (4 + e))
             return no;
         id = get(&b, 8);
@@ -230,9 +267,12 @@ static struct plain_read slow_read(const uint8_t *chunk, size_t n, uint8_t *list
             get(&b, 1 + 1 + 1 + 5);
             b.at += 8 * e;
             count = get(&b, 8);
-            for (k = 0; k < 8 * count * (3 + s); k++, b.at++)
-                if (b.at == b.n)
-                    return no;
+            for (; count > 0; count--) {
+                no.at = b.at / 8;
+                for (k = 0; k < 8 * (3 + s); k++, b.at++)
+                    if (b.at == b.n)
+                        return no;
+            }
             continue;
         }
         list[to++] = 0x45;
@@ -245,9 +285,10 @@ static struct plain_read slow_read(const uint8_t *chunk, size_t n, uint8_t *list
         list[to++] = (uint8_t)get(&b, 5);
         b.at += 8 * e;
         list[to++] = (uint8_t)(count = get(&b, 8));
-        if (b.n - b.at < 8 * count * (3 + s))
-            return no;
         for (k = 0; k < count; k++) {
+            no.at = b.at / 8;
+            if (b.n - b.at < 8 * (3 + s))
+                return no;
             list[to++] = 0x53;
             list[to++] = 0x56;
             list[to++] = (uint8_t)get(&b, 8);
@@ -263,19 +304,23 @@ static struct plain_read slow_read(const uint8_t *chunk, size_t n, uint8_t *list
     return yes;
 }
 
+/* Where the things of the last random_chunk begin, and its end. */
+static size_t starts[PLAIN_CHUNK];
+
 /* A chunk of random content, mostly one that is accepted; answers its length
    without stuffing. What is past it is random too. */
 static size_t random_chunk(uint8_t *c)
 {
     unsigned h = dice(8), e = dice(2) ? dice(8) : 0, s = dice(2) ? dice(8) : 0, i;
     unsigned ens = dice(20) ? dice(6) : dice(256), share = dice(5); /* of four ensembles, so many unknown */
-    size_t at;
+    size_t at, things = 0;
 
     for (i = 0; i < PLAIN_CHUNK; i++)
         c[i] = (uint8_t)dice(256);
     c[0] = (uint8_t)(dice(8) << 3 | h);
     c[1] = (uint8_t)(e << 5 | s << 2 | dice(4));
     c[4 + h] = (uint8_t)ens;
+    starts[things++] = 0;
     at = 5 + h;
     for (; ens > 0; ens--) {
         unsigned count = dice(12);
@@ -283,17 +328,22 @@ static size_t random_chunk(uint8_t *c)
         if (dice(4) >= share)
             c[at + 1] &= 0xE0;
         c[at + 3 + e] = (uint8_t)count;
+        starts[things++] = at;
         at += 4 + e;
         if (at + count * (3 + s) + 11 > PLAIN_CHUNK) {
             c[at - 1] = 0;
             count = 0;
         }
-        at += count * (3 + s);
+        for (; count > 0; count--) {
+            starts[things++] = at;
+            at += 3 + s;
+        }
         if (at + 11 > PLAIN_CHUNK) {
             c[4 + h] = (uint8_t)(c[4 + h] - (ens - 1));
             break;
         }
     }
+    starts[things] = at;
     return at;
 }
 
@@ -320,11 +370,13 @@ static void reader_model(void)
         some += g.number == 0 && unknown > 0 && unknown < want[4];
         only += g.number == 0 && unknown > 0 && unknown == want[4];
         cut += g.number == 9 && unknown > 0;
-        CHECK(g.number == w.number && g.kind == w.kind && g.minor == w.minor && g.length == w.length);
+        CHECK(g.number == w.number && g.kind == w.kind && g.minor == w.minor && g.length == w.length && g.at == w.at);
         CHECK(g.number != 0 || memcmp(got, want, g.length) == 0);
     }
     CHECK(seen[0] > 1000 && seen[5] > 100 && seen[9] > 1000);
     CHECK(some > 1000 && only > 1000 && cut > 1000);
+    for (round = 0; round < 3000; round++)
+        cuts(c, random_chunk(c), starts);
 }
 
 /* ---- The writer ---- */
@@ -536,19 +588,24 @@ static const uint8_t *shown(const struct rig *g, int kind, size_t *length)
     return plain_show(&g->desk, kind, g->first, PLAIN_LISTING, g->second, PLAIN_LISTING, length);
 }
 
+static int is_refusal_at(struct plain_answer a, int number, size_t at)
+{
+    return a.number == number && a.listed == 0 && a.kind == 0 && a.missing == 0 && a.length == 0 && a.at == at;
+}
+
 static int is_refusal(struct plain_answer a, int number)
 {
-    return a.number == number && a.listed == 0 && a.kind == 0 && a.missing == 0 && a.length == 0;
+    return is_refusal_at(a, number, 0);
 }
 
 static int is_missing(struct plain_answer a, size_t n)
 {
-    return a.number == 0 && a.listed == 0 && a.kind == 0 && a.missing == n && a.length == 0;
+    return a.number == 0 && a.listed == 0 && a.kind == 0 && a.missing == n && a.length == 0 && a.at == 0;
 }
 
 static int is_list(struct plain_answer a, int kind, size_t n)
 {
-    return a.number == 0 && a.listed == 1 && a.kind == kind && a.missing == 0 && a.length == n;
+    return a.number == 0 && a.listed == 1 && a.kind == kind && a.missing == 0 && a.length == n && a.at == 0;
 }
 
 static int shows(const struct rig *g, int kind, const uint8_t *list, size_t n)
@@ -673,6 +730,7 @@ static void desk_tests(void)
     /* Chunks refused on completion: held, complete, no listing changes. */
     for (k = 0; k < 5; k++) {
         static const int numbers[] = {5, 9, 9, 9, 10};
+        static const size_t ats[] = {0, 33, 33, 29, 0};
 
         for (kind = 0; kind < 2; kind++) {
             rig_fresh(&g);
@@ -689,13 +747,15 @@ static void desk_tests(void)
                     memcpy(seg + 7 + 4 * i, "\1\0\0\0", 4);
             if (k == 2 || k == 3)
                 seg[10] = 0xFF;
-            if (k == 3)
-                seg[8] = 0xE1; /* of an unknown ensemble too */
+            if (k == 3) {
+                seg[3] |= 0x1C; /* s 7 */
+                seg[8] = 0xE1;  /* of an unknown ensemble too */
+            }
             if (k == 4) {
                 seg[3] ^= 1;
                 seg[12] ^= 1; /* and another service, which must not show */
             }
-            CHECK(is_refusal(give(&g, seg), numbers[k]));
+            CHECK(is_refusal_at(give(&g, seg), numbers[k], ats[k]));
             CHECK(g.desk.slot[kind].held == 1 && g.desk.slot[kind].last == 0
                   && memcmp(g.desk.slot[kind].bytes, seg + 2, 35) == 0 && all(g.desk.slot[kind].bytes + 35, 525, 0));
             CHECK(memcmp(&before.desk.slot[!kind], &g.desk.slot[!kind], sizeof(struct plain_slot)) == 0);
@@ -713,7 +773,7 @@ static void desk_tests(void)
     sample_segment(seg, 0x30, 0x00);
     seg[3] = 0x03;
     seg[10] = 0xFF;
-    CHECK(is_refusal(give(&g, seg), 9));
+    CHECK(is_refusal_at(give(&g, seg), 9, 33));
 
     /* An unknown ensemble is listed, and that list carried on. */
     rig_fresh(&g);
@@ -757,6 +817,71 @@ static void desk_tests(void)
     sample_segment(seg, 0x32, 0x00);
     CHECK(is_list(give(&g, seg), 1, 18));
     CHECK(memcmp(g.first + 18, before.first + 18, 1292 - 18) == 0 && shows(&g, 1, list1, 18));
+}
+
+static void header_of(uint8_t *seg, unsigned kind, unsigned number, unsigned last)
+{
+    seg[0] = (uint8_t)(0x30 | kind << 1);
+    seg[1] = (uint8_t)(number << 4 | last);
+}
+
+/* Gathers so many payloads from the start of c, from the last to the first: 9
+   and where, on a desk with a listing, which stays, and with nothing gathered. */
+static void gathers_to(struct rig *g, const uint8_t *c, unsigned payloads, unsigned kind, size_t at)
+{
+    struct plain_answer a;
+    struct rig before = *g;
+    uint8_t seg[37];
+    unsigned i;
+
+    for (i = payloads; i-- > 0;) {
+        header_of(seg, kind, i, payloads - 1);
+        memcpy(seg + 2, c + 35 * i, 35);
+        a = give(g, seg);
+        CHECK(i > 0 ? is_missing(a, i) : is_refusal_at(a, 9, at));
+    }
+    CHECK(is_missing(give(g, seg), 0));
+    CHECK(shows(g, 1, list1, 18) && shows(g, 0, list1, 18));
+    CHECK(memcmp(before.first, g->first, 1292) == 0 && memcmp(before.second, g->second, 1292) == 0);
+    seg[36] ^= 1;
+    CHECK(is_refusal(give(g, seg), 7));
+    plain_gathering(&g->desk);
+}
+
+static void ran_out_tests(void)
+{
+    struct rig g;
+    uint8_t c[PLAIN_CHUNK], seg[37];
+    unsigned round, k, i;
+    size_t n;
+
+    rig_fresh(&g);
+    for (k = 0; k < 2; k++) {
+        sample_segment(seg, k ? 0x32 : 0x30, 0x00);
+        CHECK(is_list(give(&g, seg), (int)k, 18));
+    }
+    plain_gathering(&g.desk);
+    for (round = 0; round < 2000; round++) {
+        n = random_chunk(c);
+        for (k = 1; 35 * k < n; k++)
+            gathers_to(&g, c, k, dice(2), start_of(starts, 35 * k)); /* 9 comes before 10 */
+    }
+    /* 560 bytes: 139 ensembles, the last one's fields; 184 and 255 services. */
+    for (k = 0; k < 4; k++) {
+        memset(c, 0, sizeof c);
+        c[4] = 139;
+        for (i = 0; i < 138; i++)
+            c[6 + 4 * i] = (uint8_t)(k % 2 * (1 + i % 31));
+        gathers_to(&g, c, 16, k / 2, 557);
+        c[4] = 1;
+        c[8] = 184;
+        gathers_to(&g, c, 16, k / 2, 558);
+        c[1] = 0x08; /* s 2 */
+        c[8] = 255;
+        gathers_to(&g, c, 16, k / 2, 559);
+        c[1] = 0x0C; /* s 3 */
+        gathers_to(&g, c, 16, k / 2, 555);
+    }
 }
 
 /* Well formed by the words of the paper, byte by byte. */
@@ -858,7 +983,7 @@ static void model_empty(struct model *m)
 
 static struct plain_answer model_segment(struct model *m, const uint8_t *seg)
 {
-    struct plain_answer no = {0, 0, 0, 0, 0}, yes = {0, 0, 0, 0, 0};
+    struct plain_answer no = {0, 0, 0, 0, 0, 0}, yes = {0, 0, 0, 0, 0, 0};
     struct bits b = {seg, 16, 0};
     unsigned type = get(&b, 2), reserved = get(&b, 2), major = get(&b, 2), k = get(&b, 1), error = get(&b, 1);
     unsigned number = get(&b, 4), last = get(&b, 4), i;
@@ -890,6 +1015,7 @@ static struct plain_answer model_segment(struct model *m, const uint8_t *seg)
         memcpy(chunk + 35 * i, m->came[k][i], 35);
     r = slow_read(chunk, 35 * (last + 1), list);
     no.number = r.number ? r.number : r.kind != (int)k ? 10 : 0;
+    no.at = r.at;
     if (no.number)
         return no;
     memcpy(m->list[k], list, r.length);
@@ -953,7 +1079,7 @@ static void model_tests(void)
             a = give(&g, seg);
             w = model_segment(&m, seg);
             CHECK(a.number == w.number && a.listed == w.listed && a.kind == w.kind
-                  && a.missing == w.missing && a.length == w.length);
+                  && a.missing == w.missing && a.length == w.length && a.at == w.at);
             seen[a.number]++;
             lists += a.listed != 0;
             lists_unknown += a.listed != 0 && unknown > 0;
@@ -1020,7 +1146,9 @@ static void expect_log(void)
         } else if (input_n - at >= 39 && memcmp(input + at, "SG", 2) == 0) {
             struct plain_answer a = give(&g, input + at + 2);
 
-            if (a.number != 0)
+            if (a.number == 9)
+                want_n += (size_t)sprintf(want + want_n, "SG 9 at %zu\n", a.at);
+            else if (a.number != 0)
                 want_n += (size_t)sprintf(want + want_n, "SG %d\n", a.number);
             else if (!a.listed)
                 want_n += (size_t)sprintf(want + want_n, "SG 0 missing %zu\n", a.missing);
@@ -1042,6 +1170,20 @@ static void expect_log(void)
 static int prints(size_t piece)
 {
     return run_program(">test.out", piece) == 0 && has("test.out", want, want_n);
+}
+
+/* The records of so many payloads from the start of c. */
+static void add_segments(const uint8_t *c, unsigned payloads)
+{
+    uint8_t seg[37];
+    unsigned i;
+
+    for (i = 0; i < payloads; i++) {
+        header_of(seg, c[1] & 1u, i, payloads - 1);
+        memcpy(seg + 2, c + 35 * i, 35);
+        add("SG", 2);
+        add(seg, 37);
+    }
 }
 
 static void log_tests(void)
@@ -1076,6 +1218,42 @@ static void log_tests(void)
     CHECK(prints(0));
     input_n = whole;
 
+    /* Chunks that end too early, each given twice. h, e and s 7: the fifth of six services. */
+    memset(c, 0, sizeof c);
+    c[0] = 0x07;
+    c[1] = 0xFD;
+    c[11] = 1;
+    c[22] = 6;
+    add_segments(c, 2);
+    add_segments(c, 2);
+    add("GA", 2);
+    /* Seven services, then the fields of an ensemble, of which no byte is there. */
+    memset(c, 0, sizeof c);
+    c[0] = 0x05;
+    c[9] = 2;
+    c[13] = 7;
+    add_segments(c, 1);
+    add_segments(c, 1);
+    add("FR", 2);
+    /* The last of 184 services, of an unknown ensemble. */
+    memset(c, 0, sizeof c);
+    c[1] = 0x01;
+    c[4] = 1;
+    c[6] = 9;
+    c[8] = 184;
+    add_segments(c, 16);
+    want_n = 0;
+    expect(sample);
+    want_n -= 6;
+    expect("SG 0 missing 1\nSG 9 at 63\nSG 0 missing 0\nSG 0 missing 0\nGA\n"
+           "SG 9 at 35\nSG 0 missing 0\nFR none\n");
+    for (i = 15; i > 0; i--)
+        want_n += (size_t)sprintf(want + want_n, "SG 0 missing %u\n", i);
+    expect("SG 9 at 558\nEND 0\n");
+    CHECK(prints(0));
+    CHECK(prints(40));
+    input_n = whole;
+
     /* Every cut of the sample, and an unknown mark at its end. */
     whole = input_n;
     for (input_n = 0; input_n <= whole; input_n++) {
@@ -1103,16 +1281,9 @@ static void log_tests(void)
             add(round % 2 ? "GA" : "FR", 2);
         while (input_n < 65536u * (1 + round % 3) + 3000) {
             if (dice(3)) {
-                memset(seg, 0, sizeof seg);
                 n = random_chunk(c);
-                k = (unsigned)((n + 34) / 35);
-                for (i = 0; i < k; i++) {
-                    seg[0] = (uint8_t)(0x30 | (c[1] & 1u) << 1);
-                    seg[1] = (uint8_t)(i << 4 | (k - 1));
-                    memcpy(seg + 2, c + 35 * i, 35);
-                    add("SG", 2);
-                    add(seg, 37);
-                }
+                n -= dice(8) == 0 && n > 70 ? 35 : 0; /* ends too early */
+                add_segments(c, (unsigned)((n + 34) / 35));
             } else {
                 n = make_listing(big, 1, 183);
                 k = dice(2);
@@ -1190,6 +1361,7 @@ int main(int argc, char **argv)
     unknown_writer_tests();
     writer_tests();
     desk_tests();
+    ran_out_tests();
     malformed_tests();
     model_tests();
     if (argc > 1) {

@@ -48,7 +48,7 @@ fn say_answer(answer: Answer) {
             tell::say_kind(kind);
             tell::say_number(length as u64);
         }
-        Answer::Refused(refusal) => tell::say_number(meaning::number_of(refusal) as u64),
+        Answer::Refused(refusal) => tell::say_refusal(refusal),
     }
 }
 

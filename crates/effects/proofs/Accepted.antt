@@ -81,7 +81,7 @@ module _ (d : Desk) (xs first second : List ℕ) where
   Comes r (NewList j n) = Bytes (d .bytes) → Bytes xs → Lists d xs first second j n r
   Comes r (Refused f) = Unit {0}
 
-  bytes-chunk : Ready d first second → segmentChecks xs ≡ Fine → Bytes (d .bytes) → Bytes xs → Bytes (chunkIn (hold xs before))
+  pub bytes-chunk : Ready d first second → segmentChecks xs ≡ Fine → Bytes (d .bytes) → Bytes xs → Bytes (chunkIn (hold xs before))
   bytes-chunk y fine b v =
       let room : payloadBytes * numberIn xs + length (payloadIn xs) ≤ length (bytesFor k d) =
       omega (arith, number-small xs fine, segment-passes xs fine, length-drop segmentHeaderBytes xs, slot-numbers _ _ (kind-fits k d (y .formed) .1) .0) in

@@ -6,4 +6,5 @@ pub mod Apart
 pub mod Reserved
 pub mod Refusals
 pub mod Accepted
+pub mod Ends
 pub mod Calls

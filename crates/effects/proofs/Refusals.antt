@@ -38,7 +38,7 @@ use Rattle.effects.proofs.Ways.{own, Takes, takes, unlisted-becomes, mi
 
 -- ---- the numbers that some checks can give
 
-abbrev earlyNumbers : List ℕ
+abbrev pub earlyNumbers : List ℕ
 earlyNumbers = 1 ∷ 2 ∷ 3 ∷ 4 ∷ 5 ∷ 6 ∷ 12 ∷ []
 
 abbrev chunkNumbers : List ℕ
@@ -112,13 +112,13 @@ refusal-leaves d xs first second f e = subst (Goes d xs first second (segmentAft
 -- ---- the numbers of refusals
 
 -- what is so of some numbers is so of each among them
-of-each : (P : ℕ → Type 0) (ms : List ℕ) (n : ℕ) → Each P ms → T (among ms n) → P n
+pub of-each : (P : ℕ → Type 0) (ms : List ℕ) (n : ℕ) → Each P ms → T (among ms n) → P n
 of-each P [] n h t = absurd t
 of-each P (m ∷ ms) n h t =
     either (eqb n m) (λ q. rw (eqb-true n m q) (h .0)) (λ q. of-each P ms n (h .1) (simp q at t))
 
 module _ (d : Desk) (xs first second : List ℕ) (f : Refusal) where
-  early-number : callChecks d xs first second ≡ Fault f → T (among earlyNumbers (numberOf f))
+  pub early-number : callChecks d xs first second ≡ Fault f → T (among earlyNumbers (numberOf f))
   early-number e = given earlyNumbers e (call-gives d xs first second)
 
   chunk-number : callChecks d xs first second ≡ Fine → chunkChecks d xs ≡ Fault f → T (among chunkNumbers (numberOf f))

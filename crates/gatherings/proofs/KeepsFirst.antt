@@ -12,7 +12,7 @@ use Rattle.octets.specs.Checks.{among}
 use Rattle.meaning.specs.declared.Kind.the-variants.{This}
 use Rattle.meaning.specs.Sizes.{longestListing}
 use Rattle.meaning.specs.Lists.{Service, known, FicList}
-use Rattle.meaning.specs.Layout.{serviceFields, ensembleFields, chunkFields, wire, Carries}
+use Rattle.meaning.specs.Layout.{serviceFields, ensembleHead, ensembleFields, chunkHead, chunkFields, wire, Carries}
 use Rattle.meaning.specs.Listing.{listing, ensembleListing}
 use Rattle.meaning.specs.Plain.{plain}
 use Rattle.meaning.specs.Reading.{checks, ensemblesChecks, listIn, ensemblesAt, servicesAt}
@@ -58,7 +58,7 @@ run = ranBy keepsFirst (state fresh memory memory) (map (callFor chunk fill) del
 
 -- the last service's status is 0 there, and 3 in the list
 status-lost : getD (run .left .first) 72 0 ≡ 0
-unfolding run memory deliveries chunk list service ranBy keepsFirst pieceOf segment headFields wire chunkFields ensembleFields serviceFields bytesOf octets number laid bits flatMap segmentAfter takenBy wellFormed slotFits clashing gathered completed segmentChecks checks ensemblesChecks listIn ensemblesAt servicesAt listing ensembleListing ones onesIn
+unfolding run memory deliveries chunk list service ranBy keepsFirst pieceOf segment headFields wire chunkFields chunkHead ensembleFields ensembleHead serviceFields bytesOf octets number laid bits flatMap segmentAfter takenBy wellFormed slotFits clashing gathered completed segmentChecks checks ensemblesChecks listIn ensemblesAt servicesAt listing ensembleListing ones onesIn
 status-lost = refl
 
 status-sent : (rest : List ℕ) → getD (listing list ++ rest) 72 0 ≡ 3
@@ -66,7 +66,7 @@ unfolding list service listing ensembleListing flatMap
 status-sent rest = refl
 
 carried : Carries chunk This 0 list
-unfolding chunk list service wire chunkFields ensembleFields serviceFields bytesOf octets number laid bits flatMap checks ensemblesChecks listIn ensemblesAt servicesAt
+unfolding chunk list service wire chunkFields chunkHead ensembleFields ensembleHead serviceFields bytesOf octets number laid bits flatMap checks ensemblesChecks listIn ensemblesAt servicesAt
 carried = accepted-carried (bytes-bytesOf (chunkFields (plain This list))) (record { passes = refl; kind = refl; minor = refl; list = refl })
 
 long : longestListing ≤ length memory
@@ -74,13 +74,13 @@ unfolding memory
 long = omega arith
 
 every : (i : ℕ) → i < segmentCount (length chunk) → T (among (numbersOf deliveries) i)
-unfolding deliveries chunk list service wire chunkFields ensembleFields serviceFields bytesOf octets number laid bits flatMap
+unfolding deliveries chunk list service wire chunkFields chunkHead ensembleFields ensembleHead serviceFields bytesOf octets number laid bits flatMap
 every zero l = tt
 every (suc zero) l = tt
 every (suc (suc i)) l = absurd (omega arith)
 
 allowed : Each (MayCome (segmentCount (length chunk)) This) deliveries
-unfolding deliveries chunk list service wire chunkFields ensembleFields serviceFields bytesOf octets number laid bits flatMap
+unfolding deliveries chunk list service wire chunkFields chunkHead ensembleFields ensembleHead serviceFields bytesOf octets number laid bits flatMap
 allowed = omega arith
 
 pub first-not-enough : ListsAll keepsFirst → ⊥

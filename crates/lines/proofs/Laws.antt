@@ -1,25 +1,26 @@
 -- Laws of the lines: their lengths, and the lines of an answer case by case. Assumes nothing.
-use mathlib.Core.Path.{_≡_, sym, ap, _∙_}
+use mathlib.Core.Path.{_≡_, sym, ap}
 use mathlib.Core.Bool.{Bool, true, false, cond}
-use mathlib.Core.List.{List, _++_}
-use Prim.Native.Nat.{ℕ, _+_, _*_, _≤_, _<_}
+use mathlib.Core.List.{List, [], _++_}
+use Prim.Native.Nat.{ℕ, _+_, _*_, _^_, _≤_, _<_}
 use native.Mathlib.Omega.{arith}
 use borrow.Author.Tests.{eq-eqb, ne-eqb}
 use lib.Dec.{eqb}
 use lib.ListN.{length, length-append}
-use Rattle.text.specs.Text.{text, newline, numbered}
-use Rattle.text.proofs.Laws.{length-numbered}
+use Rattle.octets.proofs.Laws.{either}
+use Rattle.text.specs.Text.{text, newline, decimal, numbered}
+use Rattle.text.proofs.Laws.{length-decimal, length-wide, length-numbered}
 use Rattle.hex.specs.Hex.{hex}
 use Rattle.hex.proofs.Written.{length-hex}
 use Rattle.meaning.specs.declared.Kind.{Kind}
 use Rattle.meaning.specs.declared.Kind.the-variants.{This, Next}
 use Rattle.meaning.specs.declared.Refusal.{Refusal}
 use Rattle.meaning.specs.Sizes.{longestListing}
-use Rattle.meaning.specs.Numbers.{numberOf}
+use Rattle.meaning.specs.Numbers.{numberOf, offsetOf}
 use Rattle.meaning.proofs.Gives.{numberOf-small}
 use Rattle.slots.specs.declared.Answer.{Answer}
 use Rattle.slots.specs.declared.Answer.the-variants.{Missing, NewList, Refused}
-use Rattle.lines.specs.Lines.{listingLines, frameLines, kindText, answerLines, longestLines}
+use Rattle.lines.specs.Lines.{listingLines, frameLines, kindText, offsetText, refusalLine, missingLine, listLines, refusedLine, answerLines, longestLines}
 
 -- ---- lengths
 
@@ -42,17 +43,33 @@ pub length-kind : (k : Kind) → length (kindText k) ≡ 15
 length-kind This = omega arith
 length-kind Next = omega arith
 
--- the count of an answer is not too great
+pub length-offset : (number at : ℕ) → at < 2 ^ 64 → length (offsetText number at) ≤ 24
+length-offset number at h = either (eqb number 9) (λ q. simp q (omega (arith, length-wide at h))) (λ q. simp q (omega arith))
+
+length-refusal : (f : Refusal) → offsetOf f < 2 ^ 64 → length (refusalLine f) ≤ 28
+unfolding refusalLine
+length-refusal f h =
+    let number : List ℕ = decimal (numberOf f) in
+    let offset : List ℕ = offsetText (numberOf f) (offsetOf f) in
+    omega (
+      arith,
+      length-append number (offset ++ newline),
+      length-append offset newline,
+      length-decimal 2 (numberOf f) (omega (arith, numberOf-small f)),
+      length-offset (numberOf f) (offsetOf f) h,
+    )
+
+-- the counts of an answer are not too great
 abbrev pub Countable : Answer → Type 0
 Countable (Missing n) = n < 10000
 Countable (NewList k n) = Unit {0}
-Countable (Refused f) = Unit {0}
+Countable (Refused f) = offsetOf f < 2 ^ 64
 
 pub length-answer : (a : Answer) (l : List ℕ) → Countable a → length l ≤ longestListing → length (answerLines a l) ≤ longestLines
 unfolding answerLines
 length-answer (Missing n) l c h = omega (arith, length-numbered 3 n c)
 length-answer (NewList k n) l c h = omega (arith, length-append (kindText k) (listingLines l), length-kind k, length-listing l h)
-length-answer (Refused f) l c h = omega (arith, length-numbered 2 (numberOf f) (omega (arith, numberOf-small f)))
+length-answer (Refused f) l c h = omega (arith, length-refusal f c)
 
 -- ---- a frame's lines, and an answer's, case by case
 
@@ -64,23 +81,25 @@ pub frame-some : (l : List ℕ) → (length l ≡ 0 → ⊥) → text "FR " ++ l
 unfolding frameLines
 frame-some l e = rw (ne-eqb (length l) 0 e)
 
-pub missing-lines : (a : Answer) (n : ℕ) (l : List ℕ) → a ≡ Missing n → text "SG 0 missing " ++ numbered n ≡ answerLines a l
+pub missing-lines : (a : Answer) (n : ℕ) (l : List ℕ) → a ≡ Missing n → missingLine n ≡ answerLines a l
 unfolding answerLines
 missing-lines a n l e = ap (λ (b : Answer). answerLines b l) (sym e)
 
-pub listed-lines : (a : Answer) (k : Kind) (n : ℕ) (l : List ℕ) → a ≡ NewList k n → kindText k ++ listingLines l ≡ answerLines a l
+pub listed-lines : (a : Answer) (k : Kind) (n : ℕ) (l : List ℕ) → a ≡ NewList k n → listLines k l ≡ answerLines a l
 unfolding answerLines
 listed-lines a k n l e = ap (λ (b : Answer). answerLines b l) (sym e)
 
-pub refused-lines : (a : Answer) (f : Refusal) (m : ℕ) (l : List ℕ) → a ≡ Refused f → m ≡ numberOf f → text "SG " ++ numbered m ≡ answerLines a l
+pub refused-lines : (a : Answer) (f : Refusal) (l : List ℕ) → a ≡ Refused f → refusedLine f ≡ answerLines a l
 unfolding answerLines
-refused-lines a f m l e is = ap (λ (n : ℕ). text "SG " ++ numbered n) is ∙ ap (λ (b : Answer). answerLines b l) (sym e)
+refused-lines a f l e = ap (λ (b : Answer). answerLines b l) (sym e)
 
--- an answer without a listing has the same lines whatever is shown
-pub missing-same : (a : Answer) (n : ℕ) (l m : List ℕ) → a ≡ Missing n → answerLines (Missing n) l ≡ answerLines a m
-unfolding answerLines
-missing-same a n l m e = ap (λ (b : Answer). answerLines b m) (sym e)
+-- and a refusal's line, part by part
+pub offset-none : (number at : ℕ) → (number ≡ 9 → ⊥) → [] ≡ offsetText number at
+offset-none number at h = rw (ne-eqb number 9 h)
 
-pub refused-same : (a : Answer) (f : Refusal) (l m : List ℕ) → a ≡ Refused f → answerLines (Refused f) l ≡ answerLines a m
-unfolding answerLines
-refused-same a f l m e = ap (λ (b : Answer). answerLines b m) (sym e)
+pub offset-some : (number at : ℕ) → number ≡ 9 → text " at " ++ decimal at ≡ offsetText number at
+offset-some number at e = rw (eq-eqb number 9 e)
+
+pub refusal-parts : (f : Refusal) (m o : ℕ) → m ≡ numberOf f → o ≡ offsetOf f → decimal m ++ (offsetText m o ++ newline) ≡ refusalLine f
+unfolding refusalLine
+refusal-parts f m o e is = λ i. decimal (e i) ++ (offsetText (e i) (is i) ++ newline)

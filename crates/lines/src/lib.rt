@@ -1,12 +1,12 @@
 // The log program's lines, put at a place of an output; each answers the place after them.
 use meaning::Kind;
 use meaning::LONGEST_LISTING;
-use slots::Answer;
+use meaning::Refusal;
 ghost use Prim.Native.Nat.{_+_, _≤_};
 ghost use lib.ListN.{length};
 ghost use Rattle.meaning.specs.Sizes.{longestListing};
 ghost use Rattle.text.specs.Text.{Put};
-ghost use Rattle.lines.specs.Lines.{listingLines, frameLines, gatheringLine, kindText, answerLines, longestLines};
+ghost use Rattle.lines.specs.Lines.{listingLines, frameLines, gatheringLine, kindText, offsetText, refusalLine, missingLine, listLines, refusedLine, longestLines};
 
 // Room for the lines of any record.
 pub const LONGEST_LINES: usize = 15 + 4 + 2 * LONGEST_LISTING + 2;
@@ -52,23 +52,53 @@ fn put_kind(kind: Kind, out: &mut [u8], to: usize) -> usize
     }
 }
 
-// The lines of an answer to a segment; of the listing, if it made one.
-pub fn put_answer(answer: Answer, listing: &[u8], out: &mut [u8], to: usize) -> usize
-    requires { ⌜ (length (now listing) ≤ longestListing) × (to + longestLines ≤ length (now out)) ⌝ }
-    ensures { λ r. ⌜ Put (answerLines answer (now (listing .entry))) (now (out .entry)) to (now (out .exit)) r ⌝ }
+// The offset behind the number 9.
+fn put_offset(number: u8, offset: u16, out: &mut [u8], to: usize) -> usize
+    requires { ⌜ to + 24 ≤ length (now out) ⌝ }
+    ensures { λ r. ⌜ Put (offsetText number offset) (now (out .entry)) to (now (out .exit)) r ⌝ }
 {
-    match answer {
-        Answer::Missing(n) => {
-            let at = text::put_text(b"SG 0 missing ", out, to);
-            text::put_numbered(n as u64, out, at)
-        }
-        Answer::NewList { kind, length: _ } => {
-            let at = put_kind(kind, out, to);
-            put_listing(listing, out, at)
-        }
-        Answer::Refused(refusal) => {
-            let at = text::put_text(b"SG ", out, to);
-            text::put_numbered(meaning::number_of(refusal) as u64, out, at)
-        }
+    if number != 9 {
+        return to;
     }
+    let at = text::put_text(b" at ", out, to);
+    text::put_number(offset as u64, out, at)
+}
+
+// A refusal, to the end of its line.
+fn put_refusal(refusal: Refusal, out: &mut [u8], to: usize) -> usize
+    requires { ⌜ to + 32 ≤ length (now out) ⌝ }
+    ensures { λ r. ⌜ Put (refusalLine refusal) (now (out .entry)) to (now (out .exit)) r ⌝ }
+{
+    let number = meaning::number_of(refusal);
+    let offset = meaning::offset_of(refusal);
+    let at = text::put_number(number as u64, out, to);
+    let end = put_offset(number, offset, out, at);
+    text::put_text(b"\n", out, end)
+}
+
+// The line of a segment of whose chunk so many are still missing.
+pub fn put_missing(n: u8, out: &mut [u8], to: usize) -> usize
+    requires { ⌜ to + longestLines ≤ length (now out) ⌝ }
+    ensures { λ r. ⌜ Put (missingLine n) (now (out .entry)) to (now (out .exit)) r ⌝ }
+{
+    let at = text::put_text(b"SG 0 missing ", out, to);
+    text::put_numbered(n as u64, out, at)
+}
+
+// The lines of a segment that made this listing of this kind.
+pub fn put_list(kind: Kind, listing: &[u8], out: &mut [u8], to: usize) -> usize
+    requires { ⌜ (length (now listing) ≤ longestListing) × (to + longestLines ≤ length (now out)) ⌝ }
+    ensures { λ r. ⌜ Put (listLines kind (now (listing .entry))) (now (out .entry)) to (now (out .exit)) r ⌝ }
+{
+    let at = put_kind(kind, out, to);
+    put_listing(listing, out, at)
+}
+
+// The line of a refused segment.
+pub fn put_refused(refusal: Refusal, out: &mut [u8], to: usize) -> usize
+    requires { ⌜ to + longestLines ≤ length (now out) ⌝ }
+    ensures { λ r. ⌜ Put (refusedLine refusal) (now (out .entry)) to (now (out .exit)) r ⌝ }
+{
+    let at = text::put_text(b"SG ", out, to);
+    put_refusal(refusal, out, at)
 }

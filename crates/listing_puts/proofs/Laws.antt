@@ -112,10 +112,10 @@ past-after xs at e s k is =
     ∙ ap (λ (n : ℕ). drop n xs)
     (sym (add-assoc at (ensembleBytes + e) (servicesRoom e s (drop at xs))) ∙ ap (λ (m : ℕ). after at e s m) (sym is))
 
-pub ensembles-some : (xs : List ℕ) (at e s n k : ℕ) → at ≤ length xs → 0 < n → ensemblesChecks e s n (drop at xs) ≡ Fine → k ≡ servicesIn e (drop at xs) → (after at e s k ≤ length xs) × (ensemblesChecks e s (n - 1) (drop (after at e s k) xs) ≡ Fine)
+pub ensembles-some : (xs : List ℕ) (at e s n k : ℕ) → at ≤ length xs → 0 < n → ensemblesChecks e s n at (drop at xs) ≡ Fine → k ≡ servicesIn e (drop at xs) → (after at e s k ≤ length xs) × (ensemblesChecks e s (n - 1) (after at e s k) (drop (after at e s k) xs) ≡ Fine)
 ensembles-some xs at e s zero k inl some fine is = absurd (omega arith)
 ensembles-some xs at e s (suc n) k inl some fine is =
-    let h = ensemble-passes e s n (drop at xs) fine in
+    let h = ensemble-passes e s n at (drop at xs) fine in
     let one : suc n - 1 ≡ n = omega arith in (
       omega (
         arith,
@@ -125,7 +125,7 @@ ensembles-some xs at e s (suc n) k inl some fine is =
         length-drop (ensembleBytes + e) (drop at xs),
         ap (λ (m : ℕ). m * (serviceBytes + s)) is,
       ),
-      rw one (ap (ensemblesChecks e s n) (sym (past-after xs at e s k is)) ∙ h .1),
+      rw one (ap₂ (ensemblesChecks e s n) (ap (after at e s) is) (sym (past-after xs at e s k is)) ∙ h .1),
     )
 
 pub ensembles-next : (xs : List ℕ) (at e s n k : ℕ) → 0 < n → k ≡ servicesIn e (drop at xs) → flatMap ensembleListing (ensemblesAt e s n (drop at xs)) ≡ ensembleListing (ensembleAt e s (drop at xs)) ++ flatMap ensembleListing (ensemblesAt e s (n - 1) (drop (after at e s k) xs))

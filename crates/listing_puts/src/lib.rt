@@ -112,7 +112,7 @@ fn write_ensembles(
     start: usize,
 ) -> usize
     requires { ⌜ (from ≤ length (now chunk)) × (length (now chunk) ≤ longestChunk) × (e < 8) × (s < 8) ⌝ }
-    requires { ⌜ ensemblesChecks e s count (drop from (now chunk)) ≡ Checked.Fine ⌝ }
+    requires { ⌜ ensemblesChecks e s count from (drop from (now chunk)) ≡ Checked.Fine ⌝ }
     requires { ⌜ start + length (flatMap ensembleListing (ensemblesAt e s count (drop from (now chunk)))) ≤ length (now out) ⌝ }
     ensures { λ r. ⌜ r ≡ start + length (flatMap ensembleListing (ensemblesAt e s count (drop from (now (chunk .entry))))) ⌝ }
     ensures { λ _. ⌜ now (out .exit) ≡ sets (now (out .entry)) start (flatMap ensembleListing (ensemblesAt e s count (drop from (now (chunk .entry))))) ⌝ }

@@ -16,13 +16,14 @@ use Rattle.meaning.specs.declared.Refusal.the-variants.{ShortBuffer}
 use Rattle.meaning.proofs.Gives.{numberOf-small}
 use Rattle.meaning.specs.declared.Checked.{Checked}
 use Rattle.meaning.specs.declared.Checked.the-variants.{Fine, Fault}
-use Rattle.meaning.specs.Sizes.{longestListing}
+use Rattle.meaning.specs.Sizes.{longestChunk, longestListing}
 use Rattle.meaning.specs.Numbers.{readValues}
 use Rattle.meaning.specs.Lists.{currentOf}
 use Rattle.meaning.specs.Said.{listSaid}
 use Rattle.meaning.specs.Reading.{kindIn, checks, readChecks, readFor, readAnswer}
 use Rattle.meaning.proofs.Checks.{check-passed}
 use Rattle.meaning.proofs.Lengths.{listing-fits}
+use Rattle.meaning.proofs.Ends.{told-small}
 use Rattle.meaning.proofs.Said.{said-fitting}
 use Rattle.segments.specs.Segment.{mostSegments}
 use Rattle.writer.specs.declared.Unwritten.{Unwritten}
@@ -71,6 +72,16 @@ module _ (xs buffer : List ℕ) where
       go Fine e = listing-fits xs (check-passed (ltb (length buffer) longestListing) ShortBuffer (checks xs) e .1)
       go (Fault f) e = lit≤ tt
 
+  pub offset-small : readValues (readAnswer xs buffer) .at ≤ longestChunk
+  unfolding readAnswer
+  offset-small =
+      either (ltb (length buffer) longestListing) (λ q. simp q (lit≤ tt))
+      (λ q. simp q (go (checks xs) refl))
+    where
+      go : (v : Checked) → checks xs ≡ v → readValues (readFor v xs) .at ≤ longestChunk
+      go Fine e = lit≤ tt
+      go (Fault f) e = told-small xs f e
+
   read-small : let a = readAnswer xs buffer in (readValues a .number < 0x100) × (readValues a .kind < 2) × (readValues a .minor < 8)
   unfolding readAnswer
   read-small = go (readChecks xs buffer)
@@ -80,8 +91,8 @@ module _ (xs buffer : List ℕ) where
       go (Fault f) = (numberOf-small f, lit< tt, lit< tt)
 
   -- the header's accessors get the parts back
-  pub read-parts : let a = readAnswer xs buffer in let r = packedRead a in (r % 0x100 ≡ readValues a .number) × (r / 0x100 % 2 ≡ readValues a .kind) × (r / 0x200 % 8 ≡ readValues a .minor) × (r / 0x10000 ≡ readValues a .length)
-  read-parts = omega (arith, read-small)
+  pub read-parts : let a = readAnswer xs buffer in let r = packedRead a in (r % 0x100 ≡ readValues a .number) × (r / 0x100 % 2 ≡ readValues a .kind) × (r / 0x200 % 8 ≡ readValues a .minor) × (r / 0x10000 % 0x10000 ≡ readValues a .length) × (r / 0x100000000 ≡ readValues a .at)
+  read-parts = omega (arith, read-small, listing-short, offset-small)
 
 -- ---- the writer
 

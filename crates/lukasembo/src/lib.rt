@@ -6,7 +6,7 @@ use tunnel::Unwrapped;
 use writer::Written;
 ghost use mathlib.Core.Path.{_≡_};
 ghost use Prim.Native.Nat.{_≤_, _<_};
-ghost use Rattle.meaning.specs.Sizes.{longestListing};
+ghost use Rattle.meaning.specs.Sizes.{longestChunk, longestListing};
 ghost use Rattle.meaning.specs.Lists.{kindOf};
 ghost use Rattle.meaning.specs.Numbers.{readValues};
 ghost use Rattle.meaning.specs.Reading.{readAnswer, readBuffer};
@@ -20,7 +20,7 @@ ghost use Rattle.lukasembo.specs.Steps.{packedUnwrapped, numbersIn, pack
 
 // The reader's answer as one number.
 fn pack_read(answer: Read) -> u64
-    requires { ⌜ readValues answer .length ≤ longestListing ⌝ }
+    requires { ⌜ (readValues answer .length ≤ longestListing) × (readValues answer .at ≤ longestChunk) ⌝ }
     ensures { λ r. ⌜ r ≡ packedRead answer ⌝ }
 {
     match answer {
@@ -32,7 +32,11 @@ fn pack_read(answer: Read) -> u64
             let current = meaning::current_of(kind);
             current as u64 * 0x100 + minor as u64 * 0x200 + length as u64 * 0x10000
         }
-        Read::Refused(refusal) => meaning::number_of(refusal) as u64,
+        Read::Refused(refusal) => {
+            let number = meaning::number_of(refusal);
+            let at = meaning::offset_of(refusal);
+            number as u64 + at as u64 * 0x100000000
+        }
     }
 }
 

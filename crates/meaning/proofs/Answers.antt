@@ -17,7 +17,7 @@ use Rattle.meaning.specs.declared.Checked.the-variants.{Fine, Fault}
 use Rattle.meaning.specs.declared.Read.{Read}
 use Rattle.meaning.specs.declared.Read.the-variants.{Listed, Refused}
 use Rattle.meaning.specs.Sizes.{longestChunk, longestListing}
-use Rattle.meaning.specs.Numbers.{numberOf, readValues, readFault}
+use Rattle.meaning.specs.Numbers.{numberOf, offsetOf, readValues, readFault}
 use Rattle.meaning.specs.Lists.{FicList, currentOf}
 use Rattle.meaning.specs.Layout.{Carries}
 use Rattle.meaning.specs.Listing.{listing}
@@ -126,8 +126,8 @@ read-gives : (xs before : List ℕ) → Gives (1 ∷ 5 ∷ 8 ∷ 9 ∷ []) (read
 unfolding checks
 read-gives xs before = search (gives-check, ensembles-give) depth 8
 
--- a refusal is one of four numbers, with every other value 0, and writes nothing
-pub refusal-values : (xs before : List ℕ) {f : Refusal} → readChecks xs before ≡ Fault f → T (among (1 ∷ 5 ∷ 8 ∷ 9 ∷ []) (numberOf f)) × (readValues (readAnswer xs before) ≡ record { number = numberOf f; kind = 0; minor = 0; length = 0 }) × (readBuffer xs before ≡ before)
+-- a refusal is one of four numbers, with its offset, every other value is 0, and nothing is written
+pub refusal-values : (xs before : List ℕ) {f : Refusal} → readChecks xs before ≡ Fault f → T (among (1 ∷ 5 ∷ 8 ∷ 9 ∷ []) (numberOf f)) × (readValues (readAnswer xs before) ≡ record { number = numberOf f; at = offsetOf f; kind = 0; minor = 0; length = 0 }) × (readBuffer xs before ≡ before)
 unfolding readAnswer readBuffer
 refusal-values xs before e = (
   given _ e (read-gives xs before),
@@ -136,7 +136,7 @@ refusal-values xs before e = (
 )
 
 -- and a chunk that carries a list has number 0 and the values of its list
-pub carried-values : {xs : List ℕ} {k : Kind} {m : ℕ} {l : FicList} → Carries xs k m l → (before : List ℕ) → longestListing ≤ length before → (readValues (readAnswer xs before) ≡ record { number = 0; kind = currentOf k; minor = m; length = length (listing l) }) × (readBuffer xs before ≡ listing l ++ drop (length (listing l)) before)
+pub carried-values : {xs : List ℕ} {k : Kind} {m : ℕ} {l : FicList} → Carries xs k m l → (before : List ℕ) → longestListing ≤ length before → (readValues (readAnswer xs before) ≡ record { number = 0; at = 0; kind = currentOf k; minor = m; length = length (listing l) }) × (readBuffer xs before ≡ listing l ++ drop (length (listing l)) before)
 carried-values h before room =
     let s = carried-says h before room in
     (ap readValues (sym (s .answers)), sym (s .leaves))

@@ -2,7 +2,7 @@
 use mathlib.Core.Path.{_≡_, refl, sym, ap, ap₂, _∙_, subst}
 use mathlib.Core.Bool.{cond}
 use mathlib.Core.List.{List, [], _∷_, _++_, map, flatMap, append-assoc}
-use Prim.Native.Nat.{ℕ, suc, _+_, _*_, _/_, _%_}
+use Prim.Native.Nat.{ℕ, suc, _+_, _*_, _/_, _%_, _≤_, _<_}
 use native.Mathlib.Omega.{arith}
 use lib.Dec.{eqb}
 use lib.ListN.{length, getD, drop, length-append}
@@ -13,12 +13,12 @@ use Rattle.octets.specs.Word.{wordBytes}
 use Rattle.octets.proofs.Laws.{each-left, each-right, word-high-low}
 use Rattle.meaning.specs.declared.Kind.{Kind}
 use Rattle.meaning.specs.declared.Checked.the-variants.{Fine}
-use Rattle.meaning.specs.Sizes.{chunkHeaderBytes, ensembleBytes, serviceBytes}
+use Rattle.meaning.specs.Sizes.{longestChunk, chunkHeaderBytes, ensembleBytes, serviceBytes}
 use Rattle.meaning.specs.Lists.{known, unknown, FicList, kindOf}
-use Rattle.meaning.specs.Layout.{ServiceRow, serviceFields, EnsembleRow, ensembleFields, Chunk, chunkFields, Allowed, serviceOf, knownIn, ensembleOf, listOf, Carries}
-use Rattle.meaning.specs.Reading.{serviceAt, servicesAt, knownAt, ensembleAt, ensemblesAt, servicesIn, servicesRoom, inside, past, ensemblesChecks, checks, hIn, eIn, sIn, countIn, afterHeader, listIn, Accepts}
-use Rattle.meaning.proofs.Checks.{EnsemblePasses, ensemble-fine, HeaderPasses, header-fine}
-use Rattle.meaning.proofs.Rows.{serviceRow, serviceThird, ensembleRow, ensembleSecond, ensembleThird, chunkFirst, chunkSecond, chunkRow, wire-row}
+use Rattle.meaning.specs.Layout.{ServiceRow, serviceFields, EnsembleRow, ensembleHead, ensembleFields, Chunk, chunkHead, chunkFields, Formed, serviceOf, knownIn, ensembleOf, listOf, wire, Carries}
+use Rattle.meaning.specs.Reading.{serviceAt, servicesAt, knownAt, ensembleAt, ensemblesAt, servicesIn, servicesRoom, inside, past, ensemblesChecks, majorIn, hIn, eIn, sIn, countIn, afterHeader, listIn, Accepts}
+use Rattle.meaning.proofs.Checks.{EnsemblePasses, ensemble-next, HeaderPasses, header-fine}
+use Rattle.meaning.proofs.Rows.{serviceRow, serviceThird, ensembleFront, ensembleRow, ensembleSecond, ensembleThird, chunkFirst, chunkSecond, chunkFront, chunkRow, wire-row}
 
 -- ---- services
 
@@ -33,7 +33,7 @@ service-read v rest h =
     let p : serviceThird v % 2 ≡ v .sp = omega arith in
     λ i. record { id = word-high-low (v .id) i; multi = m i; status = t i; sp = p i }
 
-service-length : (s : ℕ) (v : ServiceRow) → Extended s v → length (serviceRow v) ≡ serviceBytes + s
+pub service-length : (s : ℕ) (v : ServiceRow) → Extended s v → length (serviceRow v) ≡ serviceBytes + s
 unfolding serviceRow
 service-length s v x = omega arith
 
@@ -58,53 +58,55 @@ services-read s (v ∷ vs) rest h x =
 abbrev pub Widened : ℕ → ℕ → EnsembleRow → Type 0
 Widened e s x = (length (x .extension) ≡ e) × Each (Extended s) (x .services)
 
-pub services-held : (x : EnsembleRow) → Held (ensembleFields x) → Held (field 8 (length (x .services)) ∷ flatMap serviceFields (x .services))
-unfolding ensembleFields
+pub services-held : (x : EnsembleRow) → Held (ensembleFields x) → (length (x .services) < 256) × Held (flatMap serviceFields (x .services))
+unfolding ensembleFields ensembleHead
 services-held x h =
-    each-right InWidth (run (x .extension)) (field 8 (length (x .services)) ∷ flatMap serviceFields (x .services)) (h .1 .1 .1 .1 .1 .1 .1)
+    let front = each-left InWidth (ensembleHead x) (flatMap serviceFields (x .services)) h in (
+      each-right InWidth (run (x .extension)) (field 8 (length (x .services)) ∷ []) (front .1 .1 .1 .1 .1 .1 .1) .0,
+      each-right InWidth (ensembleHead x) (flatMap serviceFields (x .services)) h,
+    )
 
 -- an ensemble's row at the start of what is left, the extension lengths being e and s
 module _ (e s : ℕ) (x : EnsembleRow) (w : Widened e s x) (rest : List ℕ) where
-  front : List ℕ
-  front = x .id ∷ ensembleSecond x ∷ ensembleThird x ∷ x .extension
-
   row : List ℕ
   row = flatMap serviceRow (x .services)
 
-  -- the row, split at the number of its services
-  row-split : ensembleRow x ++ rest ≡ front ++ (length (x .services) ∷ (row ++ rest))
-  unfolding ensembleRow front row
-  row-split = append-assoc front (length (x .services) ∷ row) rest
+  -- the row, split before its services
+  row-split : ensembleRow x ++ rest ≡ ensembleFront x ++ (row ++ rest)
+  unfolding ensembleRow row
+  row-split = append-assoc (ensembleFront x) row rest
 
-  services-counted : servicesIn e (ensembleRow x ++ rest) ≡ length (x .services)
-  unfolding front
+  pub front-length : length (ensembleFront x) ≡ ensembleBytes + e
+  unfolding ensembleFront
+  front-length = omega (arith, w .0, length-append (x .extension) (length (x .services) ∷ []))
+
+  pub services-counted : servicesIn e (ensembleRow x ++ rest) ≡ length (x .services)
+  unfolding ensembleFront
   services-counted =
-      ap (servicesIn e) row-split ∙ getD-at front (length (x .services)) (row ++ rest) 0 (3 + e) (omega (arith, w .0))
+      let front : List ℕ = x .id ∷ ensembleSecond x ∷ ensembleThird x ∷ x .extension in
+      let count : ℕ = length (x .services) in
+      ap (servicesIn e) (row-split ∙ append-assoc front (count ∷ []) (row ++ rest))
+      ∙ getD-at front count (row ++ rest) 0 (3 + e) (omega (arith, w .0))
 
   inside-row : inside e (ensembleRow x ++ rest) ≡ row ++ rest
-  unfolding front
-  inside-row =
-      ap (inside e) (row-split ∙ sym (append-assoc front (length (x .services) ∷ []) (row ++ rest)))
-      ∙ drop-at (front ++ (length (x .services) ∷ [])) (row ++ rest) (ensembleBytes + e)
-      (omega (arith, w .0, length-append (x .extension) (length (x .services) ∷ [])))
+  inside-row = ap (inside e) row-split ∙ drop-at (ensembleFront x) (row ++ rest) (ensembleBytes + e) front-length
 
   room-row : servicesRoom e s (ensembleRow x ++ rest) ≡ length row
   unfolding row
   room-row = ap (λ (n : ℕ). n * (serviceBytes + s)) services-counted ∙ sym (services-length s (x .services) (w .1))
 
-  past-row : past e s (ensembleRow x ++ rest) ≡ rest
+  pub past-row : past e s (ensembleRow x ++ rest) ≡ rest
   past-row = ap₂ drop room-row inside-row ∙ drop-at row rest (length row) refl
 
   ensemble-passes-row : EnsemblePasses e s (ensembleRow x ++ rest)
-  unfolding ensembleRow front
   ensemble-passes-row =
       record {
-        fields = omega (arith, w .0, ap length row-split, length-append (x .extension) (length (x .services) ∷ (row ++ rest)));
+        fields = omega (arith, front-length, ap length row-split, length-append (ensembleFront x) (row ++ rest));
         services = omega (arith, room-row, ap length inside-row, length-append row rest);
       }
 
   known-read : Held (ensembleFields x) → knownAt e s (ensembleRow x ++ rest) ≡ knownIn x
-  unfolding ensembleFields ensembleRow row
+  unfolding ensembleFields ensembleHead ensembleFront ensembleRow row
   known-read h =
       let ys : List ℕ = ensembleRow x ++ rest in
       let slt : ensembleThird x / 128 ≡ x .slt = omega arith in
@@ -116,7 +118,7 @@ module _ (e s : ℕ) (x : EnsembleRow) (w : Widened e s x) (rest : List ℕ) whe
       λ i. record { id = x .id; slt = slt i; gat = gat i; eat = eat i; channel = channel i; services = services i }
 
   ensemble-read : Held (ensembleFields x) → ensembleAt e s (ensembleRow x ++ rest) ≡ ensembleOf x
-  unfolding ensembleFields ensembleRow
+  unfolding ensembleFields ensembleHead ensembleFront ensembleRow
   ensemble-read h =
       let version : ensembleSecond x % 32 ≡ x .version = omega arith in
       λ i. cond (eqb (version i) 0) (known (known-read h i)) (unknown (record { id = x .id; version = version i }))
@@ -133,97 +135,105 @@ module _ (e s : ℕ) where
       (ap (ensemblesAt e s (length xs)) (past-row e s x (w .0) more)
       ∙ ensembles-read xs rest (each-right InWidth (ensembleFields x) (flatMap ensembleFields xs) h) (w .1))
 
-  ensembles-fine : (xs : List EnsembleRow) (rest : List ℕ) → Each (Widened e s) xs → ensemblesChecks e s (length xs) (flatMap ensembleRow xs ++ rest) ≡ Fine
+  ensembles-fine : (xs : List EnsembleRow) (at : ℕ) (rest : List ℕ) → Each (Widened e s) xs → ensemblesChecks e s (length xs) at (flatMap ensembleRow xs ++ rest) ≡ Fine
   unfolding flatMap
-  ensembles-fine [] rest w = unfold ensemblesChecks in refl
-  ensembles-fine (x ∷ xs) rest w =
+  ensembles-fine [] at rest w = unfold ensemblesChecks in refl
+  ensembles-fine (x ∷ xs) at rest w =
       let more : List ℕ = flatMap ensembleRow xs ++ rest in
-      ap (ensemblesChecks e s (suc (length xs))) (append-assoc (ensembleRow x) (flatMap ensembleRow xs) rest)
-      ∙ ensemble-fine e s (length xs) (ensembleRow x ++ more) (ensemble-passes-row e s x (w .0) more)
-      (ap (ensemblesChecks e s (length xs)) (past-row e s x (w .0) more) ∙ ensembles-fine xs rest (w .1))
+      ap (ensemblesChecks e s (suc (length xs)) at) (append-assoc (ensembleRow x) (flatMap ensembleRow xs) rest)
+      ∙ ensemble-next e s (length xs) at (ensembleRow x ++ more) (ensemble-passes-row e s x (w .0) more)
+      ∙ ap (ensemblesChecks e s (length xs) _) (past-row e s x (w .0) more)
+      ∙ ensembles-fine xs _ rest (w .1)
 
 -- ---- chunks
 
--- the row of a chunk that the layout allows
-module _ (c : Chunk) (t : Allowed c) where
+-- the row of a chunk whose fields and extensions agree
+module _ (c : Chunk) (t : Formed c) where
   abbrev xs : List ℕ
   xs = chunkRow c
 
-  before : List ℕ
-  before = chunkFirst c ∷ chunkSecond c ∷ wordBytes (c .stream) ++ c .extension
-
-  rest : List ℕ
+  unfoldable pub rest : List ℕ
   rest = flatMap ensembleRow (c .ensembles) ++ c .stuffing
 
-  h-read : hIn xs ≡ c .h
-  unfolding chunkRow chunkFields
+  pub major-read : majorIn xs ≡ c .major
+  unfolding chunkRow chunkFront chunkFields chunkHead
+  major-read = let held = t .held in omega arith
+
+  pub h-read : hIn xs ≡ c .h
+  unfolding chunkRow chunkFront chunkFields chunkHead
   h-read = let held = t .held in omega arith
 
-  e-read : eIn xs ≡ c .e
-  unfolding chunkRow chunkFields
+  pub e-read : eIn xs ≡ c .e
+  unfolding chunkRow chunkFront chunkFields chunkHead
   e-read = let held = t .held in omega arith
 
-  s-read : sIn xs ≡ c .s
-  unfolding chunkRow chunkFields
+  pub s-read : sIn xs ≡ c .s
+  unfolding chunkRow chunkFront chunkFields chunkHead
   s-read = let held = t .held in omega arith
 
-  count-read : countIn xs ≡ length (c .ensembles)
-  unfolding chunkRow before rest
-  count-read =
-      ap (λ (k : ℕ). getD xs (4 + k) 0) h-read
-      ∙ getD-at before (length (c .ensembles)) rest 0 (4 + c .h) (omega (arith, t .header))
+  pub front-length-read : length (chunkFront c) ≡ chunkHeaderBytes + c .h
+  unfolding chunkFront
+  front-length-read = omega (arith, t .header, length-append (c .extension) (length (c .ensembles) ∷ []))
 
-  afterHeader-read : afterHeader xs ≡ rest
-  unfolding chunkRow before rest
+  pub count-read : countIn xs ≡ length (c .ensembles)
+  unfolding chunkRow chunkFront rest
+  count-read =
+      let before : List ℕ = chunkFirst c ∷ chunkSecond c ∷ wordBytes (c .stream) ++ c .extension in
+      let count : ℕ = length (c .ensembles) in
+      ap (λ (k : ℕ). getD xs (4 + k) 0) h-read
+      ∙ ap (λ (t : List ℕ). getD t (4 + c .h) 0) (append-assoc before (count ∷ []) rest)
+      ∙ getD-at before count rest 0 (4 + c .h) (omega (arith, t .header))
+
+  pub afterHeader-read : afterHeader xs ≡ rest
+  unfolding chunkRow rest
   afterHeader-read =
       ap (λ (k : ℕ). drop (chunkHeaderBytes + k) xs) h-read
-      ∙ ap (drop (chunkHeaderBytes + c .h)) (sym (append-assoc before (length (c .ensembles) ∷ []) rest))
-      ∙ drop-at (before ++ (length (c .ensembles) ∷ [])) rest (chunkHeaderBytes + c .h)
-      (omega (arith, t .header, length-append (c .extension) (length (c .ensembles) ∷ [])))
+      ∙ drop-at (chunkFront c) rest (chunkHeaderBytes + c .h) front-length-read
 
-  pub ensembles-held : Held (field 8 (length (c .ensembles)) ∷ flatMap ensembleFields (c .ensembles))
-  unfolding chunkFields
+  pub ensembles-held : (length (c .ensembles) < 256) × Held (flatMap ensembleFields (c .ensembles))
+  unfolding chunkFields chunkHead
   ensembles-held =
-      let loop : List Field = field 8 (length (c .ensembles)) ∷ flatMap ensembleFields (c .ensembles) in
-      each-left InWidth loop (run (c .stuffing))
-      (each-right InWidth (run (c .extension)) (loop ++ run (c .stuffing)) (t .held .1 .1 .1 .1 .1 .1 .1 .1))
+      let payload : List Field = flatMap ensembleFields (c .ensembles) ++ run (c .stuffing) in
+      let front = each-left InWidth (chunkHead c) payload (t .held) in (
+        each-right InWidth (run (c .extension)) (field 8 (length (c .ensembles)) ∷ []) (front .1 .1 .1 .1 .1 .1 .1 .1) .0,
+        each-left InWidth (flatMap ensembleFields (c .ensembles)) (run (c .stuffing)) (each-right InWidth (chunkHead c) payload (t .held)),
+      )
 
   list-read : listIn xs ≡ listOf c
-  unfolding listIn chunkRow rest
+  unfolding listIn chunkRow chunkFront rest
   list-read =
       let ensembles : ensemblesAt (eIn xs) (sIn xs) (countIn xs) (afterHeader xs) ≡ map ensembleOf (c .ensembles) =
       (λ i. ensemblesAt (e-read i) (s-read i) (count-read i) (afterHeader-read i))
       ∙ ensembles-read (c .e) (c .s) (c .ensembles) (c .stuffing) (ensembles-held .1) (t .loops) in
       λ i. record { stream = word-high-low (c .stream) i; ensembles = ensembles i }
 
-  chunk-passes : c .major ≡ 0 → HeaderPasses xs
-  unfolding chunkRow chunkFields
-  chunk-passes m =
+  chunk-passes : c .major ≡ 0 → length (wire c) ≤ longestChunk → HeaderPasses xs
+  unfolding chunkRow chunkFront chunkFields chunkHead
+  chunk-passes m r =
       let held = t .held in
       record {
-        longest = omega (arith, t .room, ap length (wire-row c (t .held)));
-        major = omega arith;
-        fields = omega (arith, h-read, t .header, length-append (c .extension) (length (c .ensembles) ∷ (flatMap ensembleRow (c .ensembles) ++ c .stuffing)));
+        longest = omega (arith, r, ap length (wire-row c (t .held)));
+        major = major-read ∙ m;
+        fields = omega (arith, h-read, front-length-read, length-append (chunkFront c) (flatMap ensembleRow (c .ensembles) ++ c .stuffing));
       }
 
-  chunk-fine : c .major ≡ 0 → checks xs ≡ Fine
+  payload-fine : (at : ℕ) → ensemblesChecks (eIn xs) (sIn xs) (countIn xs) at (afterHeader xs) ≡ Fine
   unfolding rest
-  chunk-fine m =
-      header-fine xs (chunk-passes m)
-      ((λ i. ensemblesChecks (e-read i) (s-read i) (count-read i) (afterHeader-read i))
-      ∙ ensembles-fine (c .e) (c .s) (c .ensembles) (c .stuffing) (t .loops))
+  payload-fine at =
+      (λ i. ensemblesChecks (e-read i) (s-read i) (count-read i) at (afterHeader-read i))
+      ∙ ensembles-fine (c .e) (c .s) (c .ensembles) at (c .stuffing) (t .loops)
 
-  chunk-accepts : c .major ≡ 0 → Accepts xs (kindOf (c .current)) (c .minor) (listOf c)
-  unfolding chunkRow chunkFields
-  chunk-accepts m =
+  chunk-accepts : c .major ≡ 0 → length (wire c) ≤ longestChunk → Accepts xs (kindOf (c .current)) (c .minor) (listOf c)
+  unfolding chunkRow chunkFront chunkFields chunkHead
+  chunk-accepts m r =
       let held = t .held in
       let current : getD xs 1 0 % 2 ≡ c .current = omega arith in
-      record { passes = chunk-fine m; kind = ap kindOf current; minor = omega arith; list = list-read }
+      record { passes = header-fine xs (chunk-passes m r) (payload-fine _); kind = ap kindOf current; minor = omega arith; list = list-read }
 
 -- what the layout carries, the reader accepts
 pub carried-accepted : {xs : List ℕ} {k : Kind} {m : ℕ} {l : FicList} → Carries xs k m l → Accepts xs k m l
 carried-accepted {xs} {k} {m} {l} h =
     let c = h .chunk in
-    let a = chunk-accepts c (h .allowed) (h .major) in
-    subst (λ (t : List ℕ). Accepts t k m l) (sym (wire-row c (h .allowed .held)) ∙ h .bytes)
+    let a = chunk-accepts c (h .allowed .formed) (h .major) (h .allowed .room) in
+    subst (λ (t : List ℕ). Accepts t k m l) (sym (wire-row c (h .allowed .formed .held)) ∙ h .bytes)
     (record { passes = a .passes; kind = a .kind ∙ h .kind; minor = a .minor ∙ h .minor; list = a .list ∙ h .list })

@@ -1,8 +1,8 @@
 -- The numbers that some checks can refuse with. Assumes nothing.
-use mathlib.Core.Path.{_≡_, subst}
+use mathlib.Core.Path.{_≡_, refl, subst}
 use mathlib.Core.Bool.{Bool, true, false}
 use mathlib.Core.List.{List, _∷_}
-use Prim.Native.Nat.{ℕ, zero, suc, _<_}
+use Prim.Native.Nat.{ℕ, zero, suc, _+_, _<_}
 use lib.Dec.{T, eqb, lit<}
 use Rattle.octets.specs.Checks.{check, among}
 use Rattle.octets.proofs.Laws.{either}
@@ -10,8 +10,9 @@ use Rattle.meaning.specs.declared.Refusal.{Refusal}
 use Rattle.meaning.specs.declared.Refusal.the-variants.{ShortBuffer, SegmentLength, SegmentType, ErrorBit, OtherMajor, NumberAboveLast, Clash, TooLong, EndsEarly, KindDiffers, BadDesk}
 use Rattle.meaning.specs.declared.Checked.{Checked}
 use Rattle.meaning.specs.declared.Checked.the-variants.{Fine, Fault}
-use Rattle.meaning.specs.Numbers.{numberOf, checkedNumber}
-use Rattle.meaning.specs.Reading.{ensemblesChecks, past}
+use Rattle.meaning.specs.Sizes.{ensembleBytes}
+use Rattle.meaning.specs.Numbers.{numberOf, offsetOf, checkedNumber}
+use Rattle.meaning.specs.Reading.{ensemblesChecks, servicesRoom, past}
 
 -- a refusal has a number among these
 pub Gives : List ℕ → Checked → Type 0
@@ -37,10 +38,10 @@ module _ (ns : List ℕ) where
   gives-number Fine g = tt
   gives-number (Fault f) g = either (eqb (numberOf f) 0) (λ q. simp q tt) (λ q. simp q g)
 
-  pub ensembles-give : T (among ns (numberOf EndsEarly)) → (e s n : ℕ) (ys : List ℕ) → Gives ns (ensemblesChecks e s n ys)
+  pub ensembles-give : T (among ns 9) → (e s n at : ℕ) (ys : List ℕ) → Gives ns (ensemblesChecks e s n at ys)
   unfolding ensemblesChecks
-  ensembles-give early e s zero ys = gives-fine
-  ensembles-give early e s (suc n) ys = search (gives-check, early, ensembles-give early e s n (past e s ys))
+  ensembles-give early e s zero at ys = gives-fine
+  ensembles-give early e s (suc n) at ys = search (gives-check, early, ensembles-give early e s n (at + (ensembleBytes + e) + servicesRoom e s ys) (past e s ys))
 
 -- every number fits a byte
 pub numberOf-small : (f : Refusal) → numberOf f < 0x100
@@ -52,6 +53,20 @@ numberOf-small OtherMajor = lit< tt
 numberOf-small NumberAboveLast = lit< tt
 numberOf-small Clash = lit< tt
 numberOf-small TooLong = lit< tt
-numberOf-small EndsEarly = lit< tt
+numberOf-small (EndsEarly part at) = lit< tt
 numberOf-small KindDiffers = lit< tt
 numberOf-small BadDesk = lit< tt
+
+-- only 9 tells an offset
+pub no-offset : (f : Refusal) → (numberOf f ≡ 9 → ⊥) → offsetOf f ≡ 0
+no-offset ShortBuffer h = refl
+no-offset SegmentLength h = refl
+no-offset SegmentType h = refl
+no-offset ErrorBit h = refl
+no-offset OtherMajor h = refl
+no-offset NumberAboveLast h = refl
+no-offset Clash h = refl
+no-offset TooLong h = refl
+no-offset (EndsEarly part at) h = absurd (h refl)
+no-offset KindDiffers h = refl
+no-offset BadDesk h = refl

@@ -66,18 +66,18 @@ services-most e s ys =
     (λ q. simp q (omega arith))
 
 -- each ensemble and each service has taken its bytes of the chunk
-ensembles-room : (e s n : ℕ) (ys : List ℕ) → ensemblesChecks e s n ys ≡ Fine → ensembleBytes * n + serviceBytes * length (flatMap ensembleServices (ensemblesAt e s n ys)) ≤ length ys
+ensembles-room : (e s n at : ℕ) (ys : List ℕ) → ensemblesChecks e s n at ys ≡ Fine → ensembleBytes * n + serviceBytes * length (flatMap ensembleServices (ensemblesAt e s n ys)) ≤ length ys
 unfolding flatMap ensemblesAt
-ensembles-room e s zero ys p = omega arith
-ensembles-room e s (suc n) ys p =
-    let h = ensemble-passes e s n ys p in
+ensembles-room e s zero at ys p = omega arith
+ensembles-room e s (suc n) at ys p =
+    let h = ensemble-passes e s n at ys p in
     let own : List Service = ensembleServices (ensembleAt e s ys) in
     let more : List Service = flatMap ensembleServices (ensemblesAt e s n (past e s ys)) in
     omega (
       arith,
       h .0 .fields,
       h .0 .services,
-      ensembles-room e s n (past e s ys) (h .1),
+      ensembles-room e s n _ (past e s ys) (h .1),
       length-append own more,
       services-most e s ys,
       length-drop (ensembleBytes + e) ys,
@@ -93,7 +93,7 @@ list-room xs p =
     omega (
       arith,
       h .0 .fields,
-      ensembles-room (eIn xs) (sIn xs) (countIn xs) (afterHeader xs) (h .1),
+      ensembles-room (eIn xs) (sIn xs) (countIn xs) _ (afterHeader xs) (h .1),
       length-ensemblesAt (eIn xs) (sIn xs) (countIn xs) (afterHeader xs),
       length-drop (chunkHeaderBytes + hIn xs) xs,
     )

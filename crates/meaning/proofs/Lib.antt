@@ -8,4 +8,6 @@ pub mod Counts
 pub mod Said
 pub mod Plain
 pub mod Answers
+pub mod Things
+pub mod Ends
 pub mod Samples

@@ -15,9 +15,9 @@ use Rattle.meaning.specs.declared.Kind.{Kind}
 use Rattle.meaning.specs.declared.Kind.the-variants.{This, Next}
 use Rattle.meaning.specs.Sizes.{longestChunk, ensembleBytes, serviceBytes}
 use Rattle.meaning.specs.Lists.{Service, Ensemble, known, unknown, isKnown, ensembleServices, FicList, kindOf, currentOf, servicesOf, AllKnown}
-use Rattle.meaning.specs.Layout.{ServiceRow, serviceFields, EnsembleRow, ensembleFields, Chunk, chunkFields, wire, serviceOf, knownIn, unknownIn, ensembleOf, listOf, Carries}
+use Rattle.meaning.specs.Layout.{ServiceRow, serviceFields, EnsembleRow, ensembleHead, ensembleFields, Chunk, chunkHead, chunkFields, wire, serviceOf, knownIn, unknownIn, ensembleOf, listOf, Carries}
 use Rattle.meaning.specs.Plain.{plainService, plainEnsemble, plain, OfItsSort, Fits, plainLength, Oldest, VersionsZero}
-use Rattle.meaning.proofs.Rows.{serviceRow, ensembleRow, chunkRow, chunk-makes, wire-row}
+use Rattle.meaning.proofs.Rows.{serviceRow, ensembleFront, ensembleRow, chunkFront, chunkRow, chunk-makes, wire-row}
 use Rattle.meaning.proofs.Complete.{Extended, services-length, Widened, services-held, ensembles-held, carried-accepted}
 use Rattle.meaning.proofs.Lengths.{list-room}
 
@@ -37,14 +37,14 @@ current-bit This = omega arith
 current-bit Next = omega arith
 
 pub plain-held : (k : Kind) (l : FicList) → Fits l → Held (chunkFields (plain k l))
-unfolding chunkFields
+unfolding chunkFields chunkHead
 plain-held This l h = h .0
 plain-held Next l h = let held = h .0 in each-join InWidth 8 (chunkFields (plain Next l)) (omega arith) (held .1 .1 .1 .1 .1 .1 .1 .1)
 
 -- ---- how long it is
 
 length-ensembles : (es : List Ensemble) → length (flatMap ensembleRow (map plainEnsemble es)) ≡ ensembleBytes * length es + serviceBytes * length (flatMap ensembleServices es)
-unfolding flatMap ensembleRow
+unfolding flatMap ensembleRow ensembleFront
 length-ensembles [] = refl
 length-ensembles (unknown u ∷ es) = omega (arith, length-ensembles es)
 length-ensembles (known e ∷ es) =
@@ -58,7 +58,7 @@ length-ensembles (known e ∷ es) =
     )
 
 pub length-plain : (k : Kind) (l : FicList) → Fits l → length (wire (plain k l)) ≡ plainLength l
-unfolding chunkRow servicesOf
+unfolding chunkRow chunkFront servicesOf
 length-plain k l h =
     let rows : List ℕ = flatMap ensembleRow (map plainEnsemble (l .ensembles)) in
     omega (arith, ap length (wire-row (plain k l) (plain-held k l h)), length-append rows [], length-ensembles (l .ensembles))
@@ -94,9 +94,12 @@ plain-carried k l h r =
       chunk = plain k l;
       allowed =
           record {
-            held = plain-held k l h;
-            header = refl;
-            loops = each-map (Widened 0 0) plainEnsemble plain-widened (l .ensembles);
+            formed =
+                record {
+                  held = plain-held k l h;
+                  header = refl;
+                  loops = each-map (Widened 0 0) plainEnsemble plain-widened (l .ensembles);
+                };
             room = omega (arith, length-plain k l h);
           };
       bytes = refl;
@@ -126,14 +129,14 @@ unfolding serviceFields
 service-fits v h = each-join InWidth 5 (serviceFields (plainService (serviceOf v))) (omega arith) tt
 
 known-fits : (x : EnsembleRow) → Held (ensembleFields x) → Held (ensembleFields (plainEnsemble (known (knownIn x))))
-unfolding ensembleFields
+unfolding ensembleFields ensembleHead
 known-fits x h =
     let held = services-held x h in
     each-join InWidth 7 (ensembleFields (plainEnsemble (known (knownIn x)))) (omega arith)
     (omega (arith, length-map-map plainService serviceOf (x .services)), held-rows serviceFields plainService serviceOf service-fits (x .services) (held .1))
 
 unknown-fits : (x : EnsembleRow) → Held (ensembleFields x) → Held (ensembleFields (plainEnsemble (unknown (unknownIn x))))
-unfolding ensembleFields flatMap
+unfolding ensembleFields ensembleHead flatMap
 unknown-fits x h = omega arith
 
 ensemble-fits : (x : EnsembleRow) → Held (ensembleFields x) → Held (ensembleFields (plainEnsemble (ensembleOf x)))
@@ -143,11 +146,11 @@ ensemble-sorted : (x : EnsembleRow) → OfItsSort (ensembleOf x)
 ensemble-sorted x = either (eqb (x .version) 0) (λ q. simp q tt) (λ q. simp q (eqb-false (x .version) 0 q))
 
 pub carried-fitting : {xs : List ℕ} {k : Kind} {m : ℕ} {l : FicList} → Carries xs k m l → Fits l
-unfolding chunkFields
+unfolding chunkFields chunkHead
 carried-fitting h =
     let c = h .chunk in
-    let own = h .allowed .held in
-    let held = ensembles-held c (h .allowed) in
+    let own = h .allowed .formed .held in
+    let held = ensembles-held c (h .allowed .formed) in
     let rows : List EnsembleRow = map plainEnsemble (map ensembleOf (c .ensembles)) in
     let fits : Held (flatMap ensembleFields rows) = held-rows ensembleFields plainEnsemble ensembleOf ensemble-fits (c .ensembles) (held .1) in
     subst (λ (t : FicList). Fits t) (h .list) (
@@ -175,7 +178,7 @@ stuffed c fill =
     }
 
 fields-stuffed : (c : Chunk) (fill : List ℕ) → chunkFields (stuffed c fill) ≡ chunkFields c ++ run fill
-unfolding chunkFields
+unfolding chunkFields chunkHead
 fields-stuffed c fill = simp (map-append, append-assoc) refl
 
 wire-stuffed : (c : Chunk) (fill : List ℕ) → Held (chunkFields c ++ run fill) → wire (stuffed c fill) ≡ wire c ++ fill
@@ -189,15 +192,18 @@ wire-stuffed c fill h =
 pub stuffed-carried : {xs : List ℕ} {k : Kind} {m : ℕ} {l : FicList} → Carries xs k m l → (fill : List ℕ) → Bytes fill → length (xs ++ fill) ≤ longestChunk → Carries (xs ++ fill) k m l
 stuffed-carried {xs} h fill b r =
     let c = h .chunk in
-    let held : Held (chunkFields c ++ run fill) = each-append InWidth (chunkFields c) (run fill) (h .allowed .held) b in
+    let held : Held (chunkFields c ++ run fill) = each-append InWidth (chunkFields c) (run fill) (h .allowed .formed .held) b in
     let bytes : wire (stuffed c fill) ≡ xs ++ fill = wire-stuffed c fill held ∙ ap (λ (t : List ℕ). t ++ fill) (h .bytes) in
     record {
       chunk = stuffed c fill;
       allowed =
           record {
-            held = subst (λ (fs : List Field). Held fs) (sym (fields-stuffed c fill)) held;
-            header = h .allowed .header;
-            loops = h .allowed .loops;
+            formed =
+                record {
+                  held = subst (λ (fs : List Field). Held fs) (sym (fields-stuffed c fill)) held;
+                  header = h .allowed .formed .header;
+                  loops = h .allowed .formed .loops;
+                };
             room = omega (arith, ap length bytes);
           };
       bytes = bytes;
@@ -244,14 +250,14 @@ ensembles-oldest c o (x ∷ xs) w v r =
     ap₂ _∷_ (own ∙ ap plainEnsemble (sym (version-known x (v .0)))) more
 
 chunk-oldest : {xs : List ℕ} {k : Kind} {m : ℕ} {l : FicList} (h : Carries xs k m l) → Oldest (h .chunk) → VersionsZero (h .chunk) → h .chunk ≡ stuffed (plain k l) (h .chunk .stuffing)
-unfolding chunkFields
+unfolding chunkFields chunkHead
 chunk-oldest h o v =
     let c = h .chunk in
-    let held = h .allowed .held in
+    let held = h .allowed .formed .held in
     let current = sym (current-kind (c .current) (omega arith)) ∙ ap currentOf (h .kind) in
-    let extension = nil-of-length (c .h) (c .extension) (o .header) (h .allowed .header) in
+    let extension = nil-of-length (c .h) (c .extension) (o .header) (h .allowed .formed .header) in
     let ensembles =
-    ensembles-oldest c o (c .ensembles) (h .allowed .loops) v (o .loops)
+    ensembles-oldest c o (c .ensembles) (h .allowed .formed .loops) v (o .loops)
     ∙ ap (λ (t : FicList). map plainEnsemble (t .ensembles)) (h .list) in
     λ i.
     record {
@@ -274,7 +280,7 @@ oldest-plain {k = k} {l = l} h o v =
     let same = chunk-oldest h o v in
     sym (h .bytes)
     ∙ ap wire same
-    ∙ wire-stuffed (plain k l) fill (subst (λ (fs : List Field). Held fs) (ap chunkFields same ∙ fields-stuffed (plain k l) fill) (h .allowed .held))
+    ∙ wire-stuffed (plain k l) fill (subst (λ (fs : List Field). Held fs) (ap chunkFields same ∙ fields-stuffed (plain k l) fill) (h .allowed .formed .held))
 
 -- ---- versions: all 0 in the chunk, all known in its list
 

@@ -17,7 +17,7 @@ use Rattle.meaning.specs.declared.Kind.the-variants.{This}
 use Rattle.records.specs.Records.{markBytes}
 use Rattle.meaning.specs.Sizes.{tsBytes, enBytes, euBytes, svBytes, mostFlags, mostChannel, mostMulti, mostStatus, mostSP}
 use Rattle.meaning.specs.Lists.{Service, Known, Ensemble, known, unknown, isKnown, FicList, AllKnown}
-use Rattle.meaning.specs.Layout.{serviceFields, ensembleFields, chunkFields}
+use Rattle.meaning.specs.Layout.{serviceFields, ensembleHead, ensembleFields, chunkHead, chunkFields}
 use Rattle.meaning.specs.Plain.{plainService, plainEnsemble, plain, OfItsSort, Fits}
 use Rattle.meaning.specs.Listing.{markTS, markEN, markEU, markSV, flags, svRecord, enRecord, euRecord, tsRecord, ensembleListing, listing}
 use Rattle.meaning.specs.Said.{marked, stands, svFits, serviceSaid, servicesFit, servicesSaid, enFits, countSaid, afterEN, afterServices, ensembleSaid, ensemblesFit, ensemblesSaid, listingFits, listSaid}
@@ -59,7 +59,7 @@ EnsemblesHeld es = Held (flatMap ensembleFields (map plainEnsemble es))
 
 -- the fields of an ensemble's services, and of the ensembles after it
 ensembles-held : (e : Known) (es : List Ensemble) → EnsemblesHeld (known e ∷ es) → ServicesHeld (e .services) × EnsemblesHeld es
-unfolding flatMap ensembleFields
+unfolding flatMap ensembleFields ensembleHead
 ensembles-held e es h =
     let own = flatMap serviceFields (map plainService (e .services)) in
     let others = flatMap ensembleFields (map plainEnsemble es) in
@@ -71,7 +71,7 @@ unfolding ensembleListing
 after-services e rest = drop-at (flatMap svRecord (e .services)) rest (svBytes * length (e .services)) (length-records (e .services))
 
 ensembles-fit : (es : List Ensemble) → EnsemblesHeld es → Each (λ e. isKnown e ≡ true) es → ensemblesFit (length es) (flatMap ensembleListing es) ≡ true
-unfolding flatMap ensembleFields ensembleListing ensemblesFit enFits
+unfolding flatMap ensembleFields ensembleHead ensembleListing ensemblesFit enFits
 ensembles-fit [] h k = refl
 ensembles-fit (unknown u ∷ es) h k = absurd (false≢true (k .0))
 ensembles-fit (known e ∷ es) h k =
@@ -83,7 +83,7 @@ ensembles-fit (known e ∷ es) h k =
     (ensembles-fit es (held .1) (k .1))
 
 ensembles-bytes : (es : List Ensemble) → EnsemblesHeld es → Bytes (flatMap ensembleListing es)
-unfolding flatMap ensembleFields ensembleListing
+unfolding flatMap ensembleFields ensembleHead ensembleListing
 ensembles-bytes [] h = tt
 ensembles-bytes (unknown u ∷ es) h =
     bytes-append (euRecord u) (flatMap ensembleListing es) (omega arith) (ensembles-bytes es (h .1 .1 .1 .1 .1 .1 .1 .1))
@@ -95,7 +95,7 @@ ensembles-bytes (known e ∷ es) h =
 -- ---- lists, listed
 
 list-held : (l : FicList) → Fits l → EnsemblesHeld (l .ensembles)
-unfolding chunkFields
+unfolding chunkFields chunkHead
 list-held l h = each-left InWidth (flatMap ensembleFields (map plainEnsemble (l .ensembles))) [] (h .0 .1 .1 .1 .1 .1 .1 .1 .1 .1)
 
 -- the listing of a list without unknown ensembles is well formed for the writer
@@ -106,7 +106,7 @@ listing-fitting l h k =
     simp (le-leb _ _ room) (ensembles-fit (l .ensembles) (list-held l h) k)
 
 pub bytes-listing : (l : FicList) → Fits l → Bytes (listing l)
-unfolding chunkFields listing
+unfolding chunkFields chunkHead listing
 bytes-listing l h =
     let held = h .0 in
     bytes-append (tsRecord l) (flatMap ensembleListing (l .ensembles)) (omega (arith, length-map (l .ensembles) plainEnsemble))
@@ -115,7 +115,7 @@ bytes-listing l h =
 -- ---- a listing is of one list only: it can be told which, of both sorts of ensembles
 
 known-said : (e : Known) (es : List Ensemble) → EnsemblesHeld (known e ∷ es) → (more : List ℕ) → ensembleSaid (ensembleListing (known e) ++ more) ≡ e
-unfolding flatMap ensembleFields ensembleListing
+unfolding flatMap ensembleFields ensembleHead ensembleListing
 known-said e es h more =
     let slt : flags e / 4 ≡ e .slt = omega arith in
     let gat : flags e / 2 % 2 ≡ e .gat = omega arith in
@@ -132,7 +132,7 @@ ensemblesTold (suc n) ys =
     (known (ensembleSaid ys) ∷ ensemblesTold n (afterServices ys))
 
 ensembles-told : (es : List Ensemble) → EnsemblesHeld es → ensemblesTold (length es) (flatMap ensembleListing es) ≡ es
-unfolding flatMap ensembleFields ensembleListing ensemblesTold
+unfolding flatMap ensembleFields ensembleHead ensembleListing ensemblesTold
 ensembles-told [] h = refl
 ensembles-told (unknown u ∷ es) h = ap (λ (t : List Ensemble). unknown u ∷ t) (ensembles-told es (h .1 .1 .1 .1 .1 .1 .1 .1))
 ensembles-told (known e ∷ es) h =
@@ -209,7 +209,7 @@ services-listed (suc n) zs b f =
 -- ---- ensembles, said
 
 ensemble-listed : (ys : List ℕ) → Bytes ys → enFits ys ≡ true → servicesFit (countSaid ys) (afterEN ys) ≡ true → (ensembleListing (known (ensembleSaid ys)) ++ afterServices ys ≡ ys) × Held (ensembleFields (plainEnsemble (known (ensembleSaid ys))))
-unfolding ensembleFields ensembleListing enFits
+unfolding ensembleFields ensembleHead ensembleListing enFits
 ensemble-listed ys b f g =
     let head = and-eq-true-iff (stands markEN enBytes ys) _ .0 f in
     let flag = leb-and (getD ys 3 0) mostFlags (head .1) in
@@ -256,7 +256,7 @@ each-sorted (known e ∷ es) k = (tt, each-sorted es (k .1))
 each-sorted (unknown u ∷ es) k = absurd (false≢true (k .0))
 
 list-listed : (xs : List ℕ) → Bytes xs → listingFits xs ≡ true → (listing (listSaid xs) ≡ xs) × Fits (listSaid xs)
-unfolding chunkFields listing listingFits listSaid
+unfolding chunkFields chunkHead listing listingFits listSaid
 list-listed xs b f =
     let head = and-eq-true-iff (stands markTS tsBytes xs) _ .0 f in
     let b3 = getD-byte xs 3 b in

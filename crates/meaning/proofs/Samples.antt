@@ -6,6 +6,7 @@ use Prim.Native.Nat.{ℕ}
 use lib.ListN.{length, take, replicate}
 use Rattle.meaning.specs.declared.Kind.{Kind}
 use Rattle.meaning.specs.declared.Kind.the-variants.{This}
+use Rattle.meaning.specs.declared.Part.the-variants.{SingleService}
 use Rattle.meaning.specs.declared.Checked.the-variants.{Fine}
 use Rattle.meaning.specs.declared.Read.{Read}
 use Rattle.meaning.specs.declared.Read.the-variants.{Listed, Refused}
@@ -13,16 +14,19 @@ use Rattle.meaning.specs.Sizes.{longestListing}
 use Rattle.meaning.specs.Numbers.{readValues}
 use native.Mathlib.Omega.{arith}
 use Rattle.octets.specs.Bits.{bits, laid, number, octets, bytesOf}
-use Rattle.meaning.specs.Layout.{Chunk, serviceFields, ensembleFields, chunkFields, wire, Carries}
+use Rattle.meaning.specs.Layout.{Chunk, serviceFields, ensembleHead, ensembleFields, chunkHead, chunkFields, wire, Carries}
 use Rattle.meaning.specs.Lists.{known, unknown, FicList}
 use Rattle.meaning.specs.Listing.{ensembleListing, listing}
 use Rattle.meaning.specs.Reading.{checks, ensemblesChecks, servicesAt, ensemblesAt, listIn, readAnswer, readBuffer}
+use Rattle.meaning.specs.Ends.{EndsIn}
 use Rattle.meaning.proofs.Sound.{accepted-carried}
+use Rattle.meaning.proofs.Ends.{told-ends}
 
--- a sample: the chunk, the number that is answered, the kind where there is one, the minor edition, and the listing
+-- a sample: the chunk, the number that is answered and the offset with it, the kind where there is one, the minor edition, and the listing
 record Sample : Type 0 where
   chunk : List ℕ
   number : ℕ
+  at : ℕ
   kind : List Kind
   minor : ℕ
   listed : List ℕ
@@ -39,16 +43,17 @@ given xs =
     record {
       chunk = xs;
       number = readValues answer .number;
+      at = readValues answer .at;
       kind = kindOfAnswer answer;
       minor = readValues answer .minor;
       listed = take (readValues answer .length) (readBuffer xs buffer);
     }
 
 accepted : ℕ → List ℕ → List ℕ → Sample
-accepted m l xs = record { chunk = xs; number = 0; kind = This ∷ []; minor = m; listed = l }
+accepted m l xs = record { chunk = xs; number = 0; at = 0; kind = This ∷ []; minor = m; listed = l }
 
-refused : ℕ → List ℕ → Sample
-refused n xs = record { chunk = xs; number = n; kind = []; minor = 0; listed = [] }
+refused : ℕ → ℕ → List ℕ → Sample
+refused n at xs = record { chunk = xs; number = n; at = at; kind = []; minor = 0; listed = [] }
 
 firstListing : List ℕ
 firstListing = 0x54 ∷ 0x53 ∷ 0x01 ∷ 0x23 ∷ 0x01 ∷ 0x45 ∷ 0x4E ∷ 0x05 ∷ 0x04 ∷ 0x03 ∷ 0x01 ∷ 0x53 ∷ 0x56 ∷ 0x0A ∷ 0x01 ∷ 0x00 ∷ 0x03 ∷ 0x00 ∷ []
@@ -66,23 +71,32 @@ secondChunk = 0x09 ∷ 0x43 ∷ 0x01 ∷ 0x23 ∷ 0xAA ∷ 0x01 ∷ 0x05 ∷ 0xE
 pub unknownChunk : List ℕ
 unknownChunk = 0x00 ∷ 0x03 ∷ 0x01 ∷ 0x23 ∷ 0x01 ∷ 0x05 ∷ 0xE1 ∷ 0x83 ∷ 0x01 ∷ 0x0A ∷ 0x01 ∷ 0xE6 ∷ []
 
+-- the first without its last byte
+pub cutChunk : List ℕ
+cutChunk = 0x00 ∷ 0x03 ∷ 0x01 ∷ 0x23 ∷ 0x01 ∷ 0x05 ∷ 0xE0 ∷ 0x83 ∷ 0x01 ∷ 0x0A ∷ 0x01 ∷ []
+
 samples : List Sample
 samples =
     accepted 0 firstListing firstChunk
     ∷ accepted 1 firstListing secondChunk
     ∷ accepted 0 (0x54 ∷ 0x53 ∷ 0x01 ∷ 0x23 ∷ 0x00 ∷ []) (0x00 ∷ 0x03 ∷ 0x01 ∷ 0x23 ∷ 0x00 ∷ [])
-    ∷ refused 9 (0x00 ∷ 0x03 ∷ 0x01 ∷ 0x23 ∷ [])
-    ∷ refused 9 []
-    ∷ refused 9 (0x40 ∷ [])
-    ∷ refused 5 (0x40 ∷ 0x03 ∷ [])
-    ∷ refused 9 (0x00 ∷ 0x03 ∷ 0x01 ∷ 0x23 ∷ 0x01 ∷ [])
+    ∷ refused 9 0 (0x00 ∷ 0x03 ∷ 0x01 ∷ 0x23 ∷ [])
+    ∷ refused 9 0 []
+    ∷ refused 9 0 (0x40 ∷ [])
+    ∷ refused 5 0 (0x40 ∷ 0x03 ∷ [])
+    ∷ refused 9 5 (0x00 ∷ 0x03 ∷ 0x01 ∷ 0x23 ∷ 0x01 ∷ [])
     ∷ accepted 0 unknownListing unknownChunk
-    ∷ refused 9 (0x00 ∷ 0x03 ∷ 0x01 ∷ 0x23 ∷ 0x01 ∷ 0x05 ∷ 0xE0 ∷ 0x83 ∷ 0x01 ∷ 0x0A ∷ 0x01 ∷ [])
+    ∷ refused 9 9 cutChunk
     ∷ []
 
 samples-hold : map (λ r. given (r .chunk)) samples ≡ samples
-unfolding samples accepted refused firstListing unknownListing firstChunk secondChunk unknownChunk given kindOfAnswer readAnswer readBuffer checks ensemblesChecks servicesAt ensemblesAt listIn listing ensembleListing flatMap
+unfolding samples accepted refused firstListing unknownListing firstChunk secondChunk unknownChunk cutChunk given kindOfAnswer readAnswer readBuffer checks ensemblesChecks servicesAt ensemblesAt listIn listing ensembleListing flatMap
 samples-hold = refl
+
+-- the last of them ends in its service, at 9, in the words of the tables too
+pub cut-ends : EndsIn cutChunk SingleService 9
+unfolding cutChunk checks ensemblesChecks
+cut-ends = told-ends (omega arith) refl
 
 -- the two chunks with an ensemble, from the tables: the same fields in two dresses
 sentAs : ℕ → List ℕ → List ℕ → Chunk
@@ -114,7 +128,7 @@ sentAs minor h e =
     }
 
 layouts-hold : (wire (sentAs 0 [] []) ≡ firstChunk) × (wire (sentAs 1 (0xAA ∷ []) (0xBB ∷ 0xCC ∷ [])) ≡ secondChunk)
-unfolding sentAs firstChunk secondChunk wire chunkFields ensembleFields serviceFields bytesOf octets number laid bits flatMap
+unfolding sentAs firstChunk secondChunk wire chunkFields chunkHead ensembleFields ensembleHead serviceFields bytesOf octets number laid bits flatMap
 layouts-hold = (refl, refl)
 
 -- the first of them carries its list, and so does that with an unknown ensemble

@@ -17,10 +17,10 @@ use Rattle.meaning.specs.declared.Kind.{Kind}
 use Rattle.meaning.specs.declared.Checked.the-variants.{Fine}
 use Rattle.meaning.specs.Sizes.{chunkHeaderBytes, ensembleBytes, serviceBytes}
 use Rattle.meaning.specs.Lists.{Service, known, unknown, FicList}
-use Rattle.meaning.specs.Layout.{ServiceRow, serviceFields, EnsembleRow, ensembleFields, Chunk, chunkFields, wire, serviceOf, ensembleOf, listOf, Carries}
-use Rattle.meaning.specs.Reading.{serviceAt, servicesAt, knownAt, unknownAt, ensembleAt, ensemblesAt, servicesIn, servicesRoom, inside, past, ensemblesChecks, majorIn, minorIn, hIn, eIn, sIn, versionIn, streamIn, countIn, afterHeader, listIn, Accepts}
-use Rattle.meaning.proofs.Checks.{EnsemblePasses, ensemble-passes, HeaderPasses, header-passes}
-use Rattle.meaning.proofs.Rows.{serviceRow, serviceThird, ensembleRow, ensembleSecond, ensembleThird, chunkFirst, chunkSecond, chunkRow, wire-row}
+use Rattle.meaning.specs.Layout.{ServiceRow, serviceFields, EnsembleRow, ensembleHead, ensembleFields, Chunk, chunkHead, chunkFields, wire, Formed, serviceOf, ensembleOf, listOf, Carries}
+use Rattle.meaning.specs.Reading.{serviceAt, servicesAt, knownAt, unknownAt, ensembleAt, ensemblesAt, servicesIn, servicesRoom, inside, past, ensemblesIn, ensemblesChecks, majorIn, minorIn, hIn, eIn, sIn, versionIn, streamIn, countIn, afterHeader, listIn, Accepts}
+use Rattle.meaning.proofs.Checks.{EnsemblePasses, ensemble-passes, header-passes}
+use Rattle.meaning.proofs.Rows.{serviceRow, serviceThird, ensembleFront, ensembleRow, ensembleSecond, ensembleThird, chunkFirst, chunkSecond, chunkFront, chunkRow, wire-row}
 
 -- ---- services
 
@@ -151,25 +151,27 @@ ensembles-of e s zero ys = refl
 ensembles-of e s (suc n) ys = ap₂ _∷_ (ensemble-of e s ys) (ensembles-of e s n (past e s ys))
 
 ensemble-held : (e s : ℕ) (ys : List ℕ) → Bytes ys → Held (ensembleFields (ensembleRowAt e s ys))
-unfolding ensembleFields ensembleRowAt
+unfolding ensembleFields ensembleHead ensembleRowAt
 ensemble-held e s ys b =
     let b0 = getD-byte ys 0 b in
     let b1 = getD-byte ys 1 b in
     let b2 = getD-byte ys 2 b in
+    let x = ensembleRowAt e s ys in
     let n : ℕ = servicesIn e ys in
     let rows = serviceRowsAt s n (inside e ys) in
     let count : length rows < 256 = omega (arith, length-services s n (inside e ys), getD-byte ys (3 + e) b) in
-    each-join InWidth 7 (ensembleFields (ensembleRowAt e s ys)) (omega arith)
-    (each-append InWidth (run (take e (drop 3 ys))) (field 8 (length rows) ∷ flatMap serviceFields rows)
-    (bytes-take e (drop 3 ys) (bytes-drop 3 ys b))
-    (count, services-held s n (inside e ys) (bytes-drop (ensembleBytes + e) ys b)))
+    each-append InWidth (ensembleHead x) (flatMap serviceFields rows)
+    (each-join InWidth 7 (ensembleHead x) (omega arith)
+    (each-append InWidth (run (take e (drop 3 ys))) (field 8 (length rows) ∷ []) (bytes-take e (drop 3 ys) (bytes-drop 3 ys b)) (count, tt)))
+    (services-held s n (inside e ys) (bytes-drop (ensembleBytes + e) ys b))
 
-ensemble-written : (e s : ℕ) (ys : List ℕ) → Bytes ys → EnsemblePasses e s ys → ensembleRow (ensembleRowAt e s ys) ++ past e s ys ≡ ys
-unfolding ensembleRow ensembleRowAt
-ensemble-written e s [] b h = absurd (omega (arith, h .fields))
-ensemble-written e s (x ∷ []) b h = absurd (omega (arith, h .fields))
-ensemble-written e s (x ∷ y ∷ []) b h = absurd (omega (arith, h .fields))
-ensemble-written e s (x ∷ y ∷ z ∷ zs) b h =
+-- the fields of an ensemble that has all of them are the bytes before its services
+front-written : (e s : ℕ) (ys : List ℕ) → Bytes ys → ensembleBytes + e ≤ length ys → ensembleFront (ensembleRowAt e s ys) ++ inside e ys ≡ ys
+unfolding ensembleFront ensembleRowAt
+front-written e s [] b h = absurd (omega arith)
+front-written e s (x ∷ []) b h = absurd (omega arith)
+front-written e s (x ∷ y ∷ []) b h = absurd (omega arith)
+front-written e s (x ∷ y ∷ z ∷ zs) b h =
     let ys : List ℕ = x ∷ y ∷ z ∷ zs in
     let n : ℕ = servicesIn e ys in
     let rows = serviceRowsAt s n (inside e ys) in
@@ -178,13 +180,20 @@ ensemble-written e s (x ∷ y ∷ z ∷ zs) b h =
     let three : 3 + e ≡ suc (suc (suc e)) = omega arith in
     let four : ensembleBytes + e ≡ suc (suc (suc (suc e))) = omega arith in
     let count : length rows ≡ getD zs e 0 = length-services s n (inside e ys) ∙ ap (λ (k : ℕ). getD ys k 0) three in
-    let loop : flatMap serviceRow rows ++ past e s ys ≡ drop (suc e) zs =
-    services-written s n (inside e ys) (bytes-drop (ensembleBytes + e) ys b) (h .services) ∙ ap (λ (k : ℕ). drop k ys) four in
-    let rest : take e zs ++ (length rows ∷ flatMap serviceRow rows) ++ past e s ys ≡ zs =
-    append-assoc (take e zs) (length rows ∷ flatMap serviceRow rows) (past e s ys)
-    ∙ (λ i. take e zs ++ (count i ∷ loop i))
-    ∙ sym (split-at zs e 0 (omega (arith, h .fields))) in
+    let rest : (take e zs ++ (length rows ∷ [])) ++ inside e ys ≡ zs =
+    append-assoc (take e zs) (length rows ∷ []) (inside e ys)
+    ∙ (λ i. take e zs ++ (count i ∷ drop (four i) ys))
+    ∙ sym (split-at zs e 0 (omega arith)) in
     λ i. x ∷ second i ∷ third i ∷ rest i
+
+ensemble-written : (e s : ℕ) (ys : List ℕ) → Bytes ys → EnsemblePasses e s ys → ensembleRow (ensembleRowAt e s ys) ++ past e s ys ≡ ys
+unfolding ensembleRow ensembleRowAt
+ensemble-written e s ys b h =
+    let front : List ℕ = ensembleFront (ensembleRowAt e s ys) in
+    let rows = serviceRowsAt s (servicesIn e ys) (inside e ys) in
+    append-assoc front (flatMap serviceRow rows) (past e s ys)
+    ∙ ap (λ (t : List ℕ). front ++ t) (services-written s (servicesIn e ys) (inside e ys) (bytes-drop (ensembleBytes + e) ys b) (h .services))
+    ∙ front-written e s ys b (h .fields)
 
 -- what the ensembles' rows are, where they pass
 record RowsOf (e s n : ℕ) (ys : List ℕ) : Type 0 where
@@ -193,13 +202,13 @@ record RowsOf (e s n : ℕ) (ys : List ℕ) : Type 0 where
   widened : Each (λ x. (length (x .extension) ≡ e) × Each (λ v. length (v .extension) ≡ s) (x .services)) (ensembleRowsAt e s n ys)
   stuffing : Bytes (after e s n ys)
 
-rows-of : (e s n : ℕ) (ys : List ℕ) → Bytes ys → ensemblesChecks e s n ys ≡ Fine → RowsOf e s n ys
+rows-of : (e s n at : ℕ) (ys : List ℕ) → Bytes ys → ensemblesChecks e s n at ys ≡ Fine → RowsOf e s n ys
 unfolding flatMap ensembleRowsAt ensembleRowAt after
-rows-of e s zero ys b p = record { held = tt; written = refl; widened = tt; stuffing = b }
-rows-of e s (suc n) ys b p =
-    let h = ensemble-passes e s n ys p in
+rows-of e s zero at ys b p = record { held = tt; written = refl; widened = tt; stuffing = b }
+rows-of e s (suc n) at ys b p =
+    let h = ensemble-passes e s n at ys p in
     let more = past e s ys in
-    let r = rows-of e s n more (bytes-drop (servicesRoom e s ys) (inside e ys) (bytes-drop (ensembleBytes + e) ys b)) (h .1) in
+    let r = rows-of e s n _ more (bytes-drop (servicesRoom e s ys) (inside e ys) (bytes-drop (ensembleBytes + e) ys b)) (h .1) in
     let row : List ℕ = ensembleRow (ensembleRowAt e s ys) in
     record {
       held = each-append InWidth (ensembleFields (ensembleRowAt e s ys)) (flatMap ensembleFields (ensembleRowsAt e s n more)) (ensemble-held e s ys b) (r .held);
@@ -219,7 +228,7 @@ rows-of e s (suc n) ys b p =
 
 -- ---- chunks
 
-chunkAt : List ℕ → Chunk
+pub chunkAt : List ℕ → Chunk
 chunkAt xs =
     record {
       major = majorIn xs;
@@ -235,45 +244,27 @@ chunkAt xs =
       stuffing = after (eIn xs) (sIn xs) (countIn xs) (afterHeader xs);
     }
 
+pub major-at : (xs : List ℕ) → chunkAt xs .major ≡ majorIn xs
+unfolding chunkAt
+major-at xs = refl
+
 list-of : (xs : List ℕ) → listOf (chunkAt xs) ≡ listIn xs
 unfolding chunkAt listIn
 list-of xs =
     let ensembles = ensembles-of (eIn xs) (sIn xs) (countIn xs) (afterHeader xs) in
     λ i. record { stream = streamIn xs; ensembles = ensembles i }
 
-module _ (xs : List ℕ) (b : Bytes xs) (h : HeaderPasses xs) (r : RowsOf (eIn xs) (sIn xs) (countIn xs) (afterHeader xs)) where
-  rows : List EnsembleRow
-  rows = ensembleRowsAt (eIn xs) (sIn xs) (countIn xs) (afterHeader xs)
-
-  counted : length rows ≡ countIn xs
-  unfolding rows
-  counted = length-ensembles (eIn xs) (sIn xs) (countIn xs) (afterHeader xs)
-
-  chunk-held : Held (chunkFields (chunkAt xs))
-  unfolding chunkFields chunkAt rows
-  chunk-held =
-      let b0 = getD-byte xs 0 b in
-      let b1 = getD-byte xs 1 b in
-      let b2 = getD-byte xs 2 b in
-      let b3 = getD-byte xs 3 b in
-      let stuffing : List ℕ = after (eIn xs) (sIn xs) (countIn xs) (afterHeader xs) in
-      let count : length rows < 256 = omega (arith, counted, getD-byte xs (4 + hIn xs) b) in
-      each-join InWidth 8 (chunkFields (chunkAt xs)) (omega arith)
-      (each-append InWidth (run (take (hIn xs) (drop 4 xs))) (field 8 (length rows) ∷ flatMap ensembleFields rows ++ run stuffing)
-      (bytes-take (hIn xs) (drop 4 xs) (bytes-drop 4 xs b))
-      (count, each-append InWidth (flatMap ensembleFields rows) (run stuffing) (r .held) (r .stuffing)))
-
-chunk-written : (xs : List ℕ) → Bytes xs → HeaderPasses xs → RowsOf (eIn xs) (sIn xs) (countIn xs) (afterHeader xs) → chunkRow (chunkAt xs) ≡ xs
-unfolding chunkRow chunkAt
-chunk-written [] b h r = absurd (omega (arith, h .fields))
-chunk-written (x ∷ []) b h r = absurd (omega (arith, h .fields))
-chunk-written (x ∷ y ∷ []) b h r = absurd (omega (arith, h .fields))
-chunk-written (x ∷ y ∷ z ∷ []) b h r = absurd (omega (arith, h .fields))
-chunk-written (x ∷ y ∷ z ∷ u ∷ zs) b h r =
+-- the header of a chunk that has it whole is the bytes before its ensembles
+header-written : (xs : List ℕ) → Bytes xs → chunkHeaderBytes + hIn xs ≤ length xs → chunkFront (chunkAt xs) ++ afterHeader xs ≡ xs
+unfolding chunkFront chunkAt
+header-written [] b h = absurd (omega arith)
+header-written (x ∷ []) b h = absurd (omega arith)
+header-written (x ∷ y ∷ []) b h = absurd (omega arith)
+header-written (x ∷ y ∷ z ∷ []) b h = absurd (omega arith)
+header-written (x ∷ y ∷ z ∷ u ∷ zs) b h =
     let xs : List ℕ = x ∷ y ∷ z ∷ u ∷ zs in
     let n : ℕ = hIn xs in
     let rows = ensembleRowsAt (eIn xs) (sIn xs) (countIn xs) (afterHeader xs) in
-    let stuffing : List ℕ = after (eIn xs) (sIn xs) (countIn xs) (afterHeader xs) in
     let first : chunkFirst (chunkAt xs) ≡ x = omega (arith, div-div-eq-div-mul x 8 8) in
     let second : chunkSecond (chunkAt xs) ≡ y = omega (arith, div-div-eq-div-mul y 2 2, div-div-eq-div-mul y 4 8) in
     let third = high-word z u (b .1 .1 .1 .0) in
@@ -281,28 +272,62 @@ chunk-written (x ∷ y ∷ z ∷ u ∷ zs) b h r =
     let four : 4 + n ≡ suc (suc (suc (suc n))) = omega arith in
     let five : chunkHeaderBytes + n ≡ suc (suc (suc (suc (suc n)))) = omega arith in
     let count : length rows ≡ getD zs n 0 = length-ensembles (eIn xs) (sIn xs) (countIn xs) (afterHeader xs) ∙ ap (λ (k : ℕ). getD xs k 0) four in
-    let loop : flatMap ensembleRow rows ++ stuffing ≡ drop (suc n) zs = r .written ∙ ap (λ (k : ℕ). drop k xs) five in
-    let rest : take n zs ++ (length rows ∷ (flatMap ensembleRow rows ++ stuffing)) ≡ zs =
-    (λ i. take n zs ++ (count i ∷ loop i)) ∙ sym (split-at zs n 0 (omega (arith, h .fields))) in
+    let rest : (take n zs ++ (length rows ∷ [])) ++ afterHeader xs ≡ zs =
+    append-assoc (take n zs) (length rows ∷ []) (afterHeader xs)
+    ∙ (λ i. take n zs ++ (count i ∷ drop (five i) xs))
+    ∙ sym (split-at zs n 0 (omega arith)) in
     λ i. first i ∷ second i ∷ third i ∷ fourth i ∷ rest i
+
+-- a chunk that has its header, and whose ensembles pass
+module _ (xs : List ℕ) (b : Bytes xs) (h : chunkHeaderBytes + hIn xs ≤ length xs) (p : ensemblesIn xs ≡ Fine) where
+  rows : List EnsembleRow
+  rows = ensembleRowsAt (eIn xs) (sIn xs) (countIn xs) (afterHeader xs)
+
+  rows-are : RowsOf (eIn xs) (sIn xs) (countIn xs) (afterHeader xs)
+  rows-are = rows-of (eIn xs) (sIn xs) (countIn xs) _ (afterHeader xs) (bytes-drop (chunkHeaderBytes + hIn xs) xs b) p
+
+  chunk-held : Held (chunkFields (chunkAt xs))
+  unfolding chunkFields chunkHead chunkAt rows
+  chunk-held =
+      let b0 = getD-byte xs 0 b in
+      let b1 = getD-byte xs 1 b in
+      let b2 = getD-byte xs 2 b in
+      let b3 = getD-byte xs 3 b in
+      let r = rows-are in
+      let stuffing : List ℕ = after (eIn xs) (sIn xs) (countIn xs) (afterHeader xs) in
+      let count : length rows < 256 = omega (arith, length-ensembles (eIn xs) (sIn xs) (countIn xs) (afterHeader xs), getD-byte xs (4 + hIn xs) b) in
+      each-append InWidth (chunkHead (chunkAt xs)) (flatMap ensembleFields rows ++ run stuffing)
+      (each-join InWidth 8 (chunkHead (chunkAt xs)) (omega arith)
+      (each-append InWidth (run (take (hIn xs) (drop 4 xs))) (field 8 (length rows) ∷ [])
+      (bytes-take (hIn xs) (drop 4 xs) (bytes-drop 4 xs b))
+      (count, tt)))
+      (each-append InWidth (flatMap ensembleFields rows) (run stuffing) (r .held) (r .stuffing))
+
+  pub chunk-formed : Formed (chunkAt xs)
+  unfolding chunkAt
+  chunk-formed =
+      record {
+        held = chunk-held;
+        header = length-take-le (hIn xs) (drop 4 xs) (omega (arith, h, length-drop 4 xs));
+        loops = rows-are .widened;
+      }
+
+  pub chunk-bytes : wire (chunkAt xs) ≡ xs
+  unfolding chunkRow chunkAt
+  chunk-bytes =
+      wire-row (chunkAt xs) chunk-held
+      ∙ ap (λ (t : List ℕ). chunkFront (chunkAt xs) ++ t) (rows-are .written)
+      ∙ header-written xs b h
 
 -- what the reader accepts, the layout carries
 pub accepted-carried : {xs : List ℕ} {k : Kind} {m : ℕ} {l : FicList} → Bytes xs → Accepts xs k m l → Carries xs k m l
 unfolding chunkAt
 accepted-carried {xs} {k} {m} {l} b a =
     let p = header-passes xs (a .passes) in
-    let r = rows-of (eIn xs) (sIn xs) (countIn xs) (afterHeader xs) (bytes-drop (chunkHeaderBytes + hIn xs) xs b) (p .1) in
-    let held = chunk-held xs b (p .0) r in
-    let bytes : wire (chunkAt xs) ≡ xs = wire-row (chunkAt xs) held ∙ chunk-written xs b (p .0) r in
+    let bytes = chunk-bytes xs b (p .0 .fields) (p .1) in
     record {
       chunk = chunkAt xs;
-      allowed =
-          record {
-            held = held;
-            header = length-take-le (hIn xs) (drop 4 xs) (omega (arith, p .0 .fields, length-drop 4 xs));
-            loops = r .widened;
-            room = omega (arith, ap length bytes, p .0 .longest);
-          };
+      allowed = record { formed = chunk-formed xs b (p .0 .fields) (p .1); room = omega (arith, ap length bytes, p .0 .longest) };
       bytes = bytes;
       major = p .0 .major;
       kind = a .kind;

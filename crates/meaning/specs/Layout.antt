@@ -3,7 +3,7 @@
 use Prim.Native.Nat.{ℕ, _≤_}
 use mathlib.Core.Path.{_≡_}
 use mathlib.Core.Bool.{cond}
-use mathlib.Core.List.{List, _∷_, _++_, map, flatMap}
+use mathlib.Core.List.{List, [], _∷_, _++_, map, flatMap}
 use lib.Dec.{eqb}
 use lib.ListN.{length}
 use Rattle.octets.specs.Bits.{Field, field, run, bytesOf, Held}
@@ -44,8 +44,9 @@ pub record EnsembleRow : Type 0 where
   pub extension : List ℕ
   pub services : List ServiceRow
 
-unfoldable pub ensembleFields : EnsembleRow → List Field
-ensembleFields e =
+-- before its services
+unfoldable pub ensembleHead : EnsembleRow → List Field
+ensembleHead e =
     field 8 (e .id)  -- ensemble_id
     ∷ field 3 (e .reserved)  -- reserved
     ∷ field 5 (e .version)  -- ensemble_protocol_version
@@ -54,8 +55,10 @@ ensembleFields e =
     ∷ field 1 (e .eat)  -- EAT_ensemble_indicator
     ∷ field 5 (e .channel)  -- MH_service_signaling_channel_version
     ∷ run (e .extension)  -- ensemble_loop_header_extension_byte
-    ++ (field 8 (length (e .services))  -- num_MH_services
-    ∷ flatMap serviceFields (e .services))
+    ++ (field 8 (length (e .services)) ∷ [])  -- num_MH_services
+
+unfoldable pub ensembleFields : EnsembleRow → List Field
+ensembleFields e = ensembleHead e ++ flatMap serviceFields (e .services)
 
 -- ---- Table 6.5, then Table 6.6
 
@@ -73,8 +76,9 @@ pub record Chunk : Type 0 where
   pub ensembles : List EnsembleRow
   pub stuffing : List ℕ
 
-unfoldable pub chunkFields : Chunk → List Field
-chunkFields c =
+-- Table 6.5
+unfoldable pub chunkHead : Chunk → List Field
+chunkHead c =
     field 2 (c .major)  -- FIC_chunk_major_protocol_version
     ∷ field 3 (c .minor)  -- FIC_chunk_minor_protocol_version
     ∷ field 3 (c .h)  -- FIC_chunk_header_extension_length
@@ -84,21 +88,26 @@ chunkFields c =
     ∷ field 1 (c .current)  -- current_next_indicator
     ∷ field 16 (c .stream)  -- transport_stream_id
     ∷ run (c .extension)  -- header_extension_byte
-    ++ (field 8 (length (c .ensembles))  -- num_ensembles
-    ∷ flatMap ensembleFields (c .ensembles)
-    ++ run (c .stuffing))  -- FIC_chunk_stuffing
+    ++ (field 8 (length (c .ensembles)) ∷ [])  -- num_ensembles
+
+unfoldable pub chunkFields : Chunk → List Field
+chunkFields c = chunkHead c ++ (flatMap ensembleFields (c .ensembles) ++ run (c .stuffing))  -- FIC_chunk_stuffing
 
 -- ---- the bytes of a chunk, and which records are chunks
 
 unfoldable pub wire : Chunk → List ℕ
 wire c = bytesOf (chunkFields c)
 
-pub record Allowed (c : Chunk) : Type 0 where
+-- the fields and the extensions agree with what the header says; how long the chunk is, is not asked
+pub record Formed (c : Chunk) : Type 0 where
   -- every number fits its field: so an extension length is 0 to 7 and a count at most 255
   pub held : Held (chunkFields c)
   -- the extensions have the lengths that the header says
   pub header : length (c .extension) ≡ c .h
   pub loops : Each (λ x. (length (x .extension) ≡ c .e) × Each (λ v. length (v .extension) ≡ c .s) (x .services)) (c .ensembles)
+
+pub record Allowed (c : Chunk) : Type 0 where
+  pub formed : Formed c
   pub room : length (wire c) ≤ longestChunk
 
 -- ---- what a chunk carries

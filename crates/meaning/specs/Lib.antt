@@ -2,6 +2,7 @@ pub mod Sizes
 pub mod Lists
 pub mod Numbers
 pub mod Layout
+pub mod Ends
 pub mod Listing
 pub mod Checks
 pub mod Reading

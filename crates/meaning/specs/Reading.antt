@@ -9,6 +9,7 @@ use lib.ListN.{length, getD, drop}
 use Rattle.octets.specs.Word.{word}
 use Rattle.octets.specs.Checks.{check}
 use Rattle.meaning.specs.declared.Kind.{Kind}
+use Rattle.meaning.specs.declared.Part.the-variants.{Header, EnsembleFields, SingleService}
 use Rattle.meaning.specs.declared.Refusal.the-variants.{ShortBuffer, OtherMajor, TooLong, EndsEarly}
 use Rattle.meaning.specs.declared.Checked.{Checked}
 use Rattle.meaning.specs.declared.Checked.the-variants.{Fine, Fault}
@@ -66,23 +67,31 @@ inside e ys = drop (ensembleBytes + e) ys
 abbrev pub past : ℕ → ℕ → List ℕ → List ℕ
 past e s ys = drop (servicesRoom e s ys) (inside e ys)
 
--- ---- the checks
+-- ---- the checks; number 9 tells what the first thing is that does not fit whole, and its offset in the chunk
 
--- n ensembles at the start of ys
-unfoldable pub ensemblesChecks : ℕ → ℕ → ℕ → List ℕ → Checked
-ensemblesChecks e s zero ys = Fine
-ensemblesChecks e s (suc n) ys =
-    check (ltb (length ys) (ensembleBytes + e)) (Fault EndsEarly)  -- 9
-    (check (ltb (length (inside e ys)) (servicesRoom e s ys)) (Fault EndsEarly)  -- 9
-    (ensemblesChecks e s n (past e s ys)))
+-- of room bytes, those that whole services take, s extension bytes each
+abbrev pub wholeServices : ℕ → ℕ → ℕ
+wholeServices s room = room / (serviceBytes + s) * (serviceBytes + s)
+
+-- n ensembles at the start of ys, which is the chunk from the offset at on
+unfoldable pub ensemblesChecks : ℕ → ℕ → ℕ → ℕ → List ℕ → Checked
+ensemblesChecks e s zero at ys = Fine
+ensemblesChecks e s (suc n) at ys =
+    let services = at + (ensembleBytes + e) in
+    check (ltb (length ys) (ensembleBytes + e)) (Fault (EndsEarly EnsembleFields at))  -- 9
+    (check (ltb (length (inside e ys)) (servicesRoom e s ys)) (Fault (EndsEarly SingleService (services + wholeServices s (length (inside e ys)))))  -- 9
+    (ensemblesChecks e s n (services + servicesRoom e s ys) (past e s ys)))
+
+abbrev pub ensemblesIn : List ℕ → Checked
+ensemblesIn xs = ensemblesChecks (eIn xs) (sIn xs) (countIn xs) (chunkHeaderBytes + hIn xs) (afterHeader xs)
 
 unfoldable pub checks : List ℕ → Checked
 checks xs =
     check (ltb longestChunk (length xs)) (Fault TooLong)  -- 8
-    (check (ltb (length xs) 2) (Fault EndsEarly)  -- 9
+    (check (ltb (length xs) 2) (Fault (EndsEarly Header 0))  -- 9
     (check (not (eqb (majorIn xs) 0)) (Fault OtherMajor)  -- 5
-    (check (ltb (length xs) (chunkHeaderBytes + hIn xs)) (Fault EndsEarly)  -- 9
-    (ensemblesChecks (eIn xs) (sIn xs) (countIn xs) (afterHeader xs)))))
+    (check (ltb (length xs) (chunkHeaderBytes + hIn xs)) (Fault (EndsEarly Header 0))  -- 9
+    (ensemblesIn xs))))
 
 -- ---- the list
 

@@ -2,7 +2,7 @@
 
 ghost use mathlib.Core.Path.{_≡_};
 ghost use Rattle.meaning.specs.Lists.{kindOf, currentOf};
-ghost use Rattle.meaning.specs.Numbers.{numberOf};
+ghost use Rattle.meaning.specs.Numbers.{numberOf, offsetOf};
 
 // The frame that a list is for: the one it comes in, or the one after it.
 pub enum Kind {
@@ -10,7 +10,15 @@ pub enum Kind {
     Next,
 }
 
-// Why the reader or the desk refuses, a variant for each of their numbers in document 01.
+// What has to be in a chunk whole: its header, an ensemble's fields, a single service.
+pub enum Part {
+    Header,
+    EnsembleFields,
+    SingleService,
+}
+
+// Why the reader or the desk refuses, a variant for each of their numbers in document 01. A chunk that ends early says which part is the first
+// that does not fit whole, and its offset in the chunk.
 pub enum Refusal {
     ShortBuffer,
     SegmentLength,
@@ -20,7 +28,7 @@ pub enum Refusal {
     NumberAboveLast,
     Clash,
     TooLong,
-    EndsEarly,
+    EndsEarly { part: Part, at: u16 },
     KindDiffers,
     BadDesk,
 }
@@ -103,8 +111,27 @@ pub fn number_of(refusal: Refusal) -> u8
         Refusal::NumberAboveLast => 6,
         Refusal::Clash => 7,
         Refusal::TooLong => 8,
-        Refusal::EndsEarly => 9,
+        Refusal::EndsEarly { part: _, at: _ } => 9,
         Refusal::KindDiffers => 10,
         Refusal::BadDesk => 12,
+    }
+}
+
+// The offset in the chunk that a refusal tells, 0 where it tells none.
+pub fn offset_of(refusal: Refusal) -> u16
+    ensures { λ r. ⌜ r ≡ offsetOf refusal ⌝ }
+{
+    match refusal {
+        Refusal::ShortBuffer => 0,
+        Refusal::SegmentLength => 0,
+        Refusal::SegmentType => 0,
+        Refusal::ErrorBit => 0,
+        Refusal::OtherMajor => 0,
+        Refusal::NumberAboveLast => 0,
+        Refusal::Clash => 0,
+        Refusal::TooLong => 0,
+        Refusal::EndsEarly { part: _, at } => at,
+        Refusal::KindDiffers => 0,
+        Refusal::BadDesk => 0,
     }
 }

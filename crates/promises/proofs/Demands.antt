@@ -57,7 +57,7 @@ module _ (xs before : List ℕ) where
   pub read-exactly : readFault (readAnswer xs before) ≡ readChecks xs before
   read-exactly = reading.answer-exactly xs before
 
-  -- a refusal is one of the reader's numbers, every other value is 0, and nothing is written
+  -- a refusal is one of the reader's numbers, with its offset; every other value is 0, and nothing is written
   pub read-refused : {f : Refusal} → readChecks xs before ≡ Fault f → ReadRefused xs before f
   read-refused = fields.read-refused xs before
 

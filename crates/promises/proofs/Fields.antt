@@ -3,23 +3,26 @@ use mathlib.Core.Path.{_≡_, refl, sym, ap, subst, _∙_}
 use mathlib.Core.Bool.{Bool, true, false}
 use mathlib.Core.List.{List, _++_, map}
 use mathlib.Core.Logic.{_⊎_}
-use Prim.Native.Nat.{ℕ, _-_, _≤_, _<_}
+use Prim.Native.Nat.{ℕ, zero, suc, _-_, _≤_, _<_}
 use lib.ListN.{length, drop}
 use Rattle.octets.specs.Bits.{Bytes, Held}
+use Rattle.octets.specs.Checks.{check}
 use Rattle.octets.specs.Each.{Each}
 use Rattle.octets.proofs.Laws.{either}
 use Rattle.text.specs.Text.{text}
 use Rattle.meaning.specs.declared.Kind.{Kind}
 use Rattle.meaning.specs.declared.Refusal.{Refusal}
+use Rattle.meaning.specs.declared.Checked.{Checked}
 use Rattle.meaning.specs.declared.Checked.the-variants.{Fault}
 use Rattle.meaning.specs.declared.Read.the-variants.{Listed}
 use Rattle.meaning.specs.Sizes.{longestListing}
+use Rattle.meaning.specs.Numbers.{checkedNumber}
 use Rattle.meaning.specs.Lists.{FicList, AllKnown}
 use Rattle.meaning.specs.Layout.{Carries}
 use Rattle.meaning.specs.Listing.{listing}
 use Rattle.meaning.specs.Said.{listingFits, listSaid}
 use Rattle.meaning.specs.Plain.{Fits, Oldest, VersionsZero}
-use Rattle.meaning.specs.Reading.{readChecks, readAnswer, ReadSays}
+use Rattle.meaning.specs.Reading.{ensemblesChecks, checks, readChecks, readAnswer, ReadSays}
 use Rattle.meaning.proofs.Answers as reading
 use Rattle.meaning.proofs.Said.{fitting-known}
 use Rattle.segments.specs.Segment.{Head, headFields, segment}
@@ -49,6 +52,7 @@ use Rattle.blocks.proofs.Turns as turns
 use Rattle.lines.specs.Lines.{longestLines}
 use Rattle.replay.specs.Log.{logForm, printed, printedWith, logProgram}
 use Rattle.replay.proofs.Log.{printed-program}
+use Rattle.promises.specs.Before.{ensemblesNumber, chunkNumber}
 use Rattle.promises.specs.Says.{ReadRefused, ReadList, ChunkListed, WriteRefused, WriteAnswered, Sendable, countFor, Alike, SameSlot, SameToAll, FieldsRead, withBits, Begins, ReadBack, ReadWhole, WrittenBack, OtherMajorChunk, AllRefused, orderLines, ReadParts, WriteParts}
 
 -- ---- the reader and the writer
@@ -124,10 +128,25 @@ module _ (ys : List ℕ) (o : OtherMajorChunk ys) (c : Choice) (bytes : Bytes ys
       let r = majors.pieces-refused ys c bytes suits (o .room) (o .major) (s .desk) (y .0) (s .first) (s .second) (y .1) (y .2) numbers h in
       record { answers = r .0; left = r .1 }
 
+-- ---- the numbers of a chunk are what they were
+
+number-check : (t : Bool) (v w : Checked) → checkedNumber (check t v w) ≡ check t (checkedNumber v) (checkedNumber w)
+number-check true v w = refl
+number-check false v w = refl
+
+ensembles-numbered : (e s n at : ℕ) (ys : List ℕ) → checkedNumber (ensemblesChecks e s n at ys) ≡ ensemblesNumber e s n ys
+unfolding ensemblesChecks ensemblesNumber
+ensembles-numbered e s zero at ys = refl
+ensembles-numbered e s (suc n) at ys = simp (number-check, ensembles-numbered e s n) refl
+
+pub chunk-numbered : (xs : List ℕ) → checkedNumber (checks xs) ≡ chunkNumber xs
+unfolding checks chunkNumber
+chunk-numbered xs = simp (number-check, ensembles-numbered) refl
+
 -- ---- for programs in C
 
 pub read-parts : (xs buffer : List ℕ) → ReadParts xs buffer (packedRead (readAnswer xs buffer))
-read-parts xs buffer = let h = packed.read-parts xs buffer in record { number = h .0; kind = h .1; minor = h .2; length = h .3 }
+read-parts xs buffer = let h = packed.read-parts xs buffer in record { number = h .0; kind = h .1; minor = h .2; length = h .3; at = h .4 }
 
 pub write-parts : (xs : List ℕ) (k : Kind) (output : List ℕ) → WriteParts xs k output (packedWritten (writeAnswer xs k output))
 write-parts xs k output = let h = packed.write-parts xs k output in record { number = h .0; count = h .1 }

@@ -1,7 +1,7 @@
 -- What document 01 says besides the demands, sentence by sentence, each proved by citing its lemma. docs/PROMISES.md says which sentence is which.
 use mathlib.Core.Path.{_≡_, sym, _∙_}
 use mathlib.Core.Bool.{true, false}
-use mathlib.Core.List.{List, [], _∷_, _++_, map}
+use mathlib.Core.List.{List, [], _∷_, _++_, map, flatMap}
 use mathlib.Core.Logic.{_⊎_, inl}
 use Prim.Native.Nat.{ℕ, _+_, _-_, _*_, _^_, _≤_, _<_}
 use lib.Dec.{T}
@@ -12,14 +12,19 @@ use Rattle.octets.specs.Each.{Each}
 use Rattle.octets.specs.Checks.{among}
 use Rattle.meaning.specs.declared.Kind.{Kind}
 use Rattle.meaning.specs.declared.Kind.the-variants.{This, Next}
-use Rattle.meaning.specs.declared.Refusal.the-variants.{Clash}
+use Rattle.meaning.specs.declared.Part.{Part}
+use Rattle.meaning.specs.declared.Part.the-variants.{SingleService}
+use Rattle.meaning.specs.declared.Refusal.{Refusal}
+use Rattle.meaning.specs.declared.Refusal.the-variants.{Clash, EndsEarly}
 use Rattle.meaning.specs.declared.Checked.the-variants.{Fine}
 use Rattle.records.specs.Records.{markBytes}
 use Rattle.meaning.specs.Sizes.{longestChunk, longestListing, tsBytes, enBytes, euBytes, svBytes}
 use Rattle.meaning.specs.Lists.{Ensemble, FicList, servicesOf, knownCount, unknownCount, AllKnown}
-use Rattle.meaning.specs.Layout.{EnsembleRow, ensembleOf, Carries, wire}
+use Rattle.meaning.specs.Layout.{EnsembleRow, ensembleOf, Chunk, Formed, Carries, wire}
 use Rattle.meaning.specs.Listing.{listing}
-use Rattle.meaning.specs.Numbers.{checkedNumber}
+use Rattle.meaning.specs.declared.Read.the-variants.{Refused as NotRead}
+use Rattle.meaning.specs.Ends.{thingBytes, things, EndsIn}
+use Rattle.meaning.specs.Numbers.{numberOf, offsetOf, checkedNumber}
 use Rattle.meaning.specs.Reading.{checks, listIn, Accepts, readAnswer, readBuffer}
 use Rattle.meaning.specs.Said.{listingFits, listSaid}
 use Rattle.meaning.specs.Plain.{plain, Fits, plainLength}
@@ -27,7 +32,10 @@ use Rattle.meaning.proofs.Complete.{carried-accepted}
 use Rattle.meaning.proofs.Sound.{accepted-carried}
 use Rattle.meaning.proofs.Lengths.{length-listing, listing-fits}
 use Rattle.meaning.proofs.Answers.{dress-disregarded}
-use Rattle.meaning.proofs.Samples.{firstChunk, firstList, first-carried, unknownChunk, unknownList, unknownListing, unknown-carried, longest-reached}
+use Rattle.meaning.proofs.Gives.{no-offset}
+use Rattle.meaning.proofs.Things.{wire-things}
+use Rattle.meaning.proofs.Ends.{ends-once, answer-ends, ends-answer, answer-within}
+use Rattle.meaning.proofs.Samples.{cutChunk, cut-ends, firstChunk, firstList, first-carried, unknownChunk, unknownList, unknownListing, unknown-carried, longest-reached}
 use Rattle.meaning.proofs.Said.{bytes-listing, listing-fitting, said-listing, listing-said, said-fitting, said-known, listing-once}
 use Rattle.meaning.proofs.Plain.{length-plain, carried-fitting, inside-disregarded}
 use Rattle.segments.specs.Segment.{segmentBytes, Head, headFields, segment, segmentKind, numberIn, payloadBytes, segmentChecks}
@@ -45,17 +53,19 @@ use Rattle.typed.specs.Typed.{logOf, longestLog, kindTyped, listingTyped, answe
 use Rattle.typed.proofs.Replies.{values-written, values-refused, values-unasked, log-short}
 use Rattle.slots.specs.declared.Slot.{Slot}
 use Rattle.slots.specs.declared.Answer.the-variants.{Missing, Refused}
+use Rattle.slots.specs.Gathering.{chunkIn}
 use Rattle.slots.specs.Slots.{holds, spoiledSlot, missingIn}
 use Rattle.slots.proofs.Bits.{complete-full, full-complete}
 use Rattle.desk.specs.declared.Desk.{Desk}
 use Rattle.notes.specs.Notes.{slotFor, otherKind, lentFor}
 use Rattle.desk.specs.Desks.{fresh, wellFormed, newGathering, newFrame, After, after, callChecks, segmentAfter, shownLength, shown}
 use Rattle.desk.proofs.Laws.{gathering-bad, frame-bad}
-use Rattle.effects.specs.Effects.{slotBefore, clashes}
+use Rattle.effects.specs.Effects.{slotBefore, slotHolding, clashes}
 use Rattle.effects.proofs.Keeps.{fresh-fits, same-lengths}
 use Rattle.effects.proofs.Frames.{length-shown, frame-shows, frame-place, frame-next, gathering-shows, next-hidden, other-shown}
 use Rattle.desk.specs.Calls.{Call, State, Ready, shownIn, nextFrame, Ran, ran, answersOf, InFrame, Lacks}
 use Rattle.effects.proofs.Calls.{frame-only}
+use Rattle.effects.proofs.Ends.{refusal-ends, refusal-within}
 use Rattle.effects.proofs.Refusals.{repeat-unchanged, spoiled-refused}
 use Rattle.text.specs.Text.{text}
 use Rattle.hex.specs.Hex.{hex, hexFits, hexSaid}
@@ -72,6 +82,7 @@ use Rattle.replay.proofs.Log.{next-ready, lines-fit}
 use Rattle.replay.proofs.Samples.{sampleLog, sampleText, start, sample-printed}
 use Rattle.lukasembo.specs.Packed.{packedRead, packedWritten}
 use Rattle.gatherings.proofs.Rounds.{carried-short, written-so-many}
+use Rattle.promises.specs.Before.{chunkNumber}
 use Rattle.promises.specs.Says.{Sendable, countFor, Alike, SameSlot, SameToAll, FieldsRead, withBits, Begins, orderLines, ReadParts, WriteParts}
 use Rattle.promises.proofs.Fields as fields
 
@@ -103,6 +114,48 @@ some-chunk = first-carried
 
 pub some-unknown : Carries unknownChunk This 0 unknownList × (listing unknownList ≡ unknownListing)
 some-unknown = unknown-carried
+
+-- ---- where a chunk ran out: what number 9 tells
+
+-- a chunk is its things, laid end to end, and its stuffing
+pub chunk-is-things : (c : Chunk) → Formed c → wire c ≡ flatMap thingBytes (things c) ++ c .stuffing
+chunk-is-things = wire-things
+
+module _ {xs : List ℕ} {p : Part} {at : ℕ} where
+  -- the chunk is the beginning of one that the tables lay out, which has at the offset a thing of this part; all before it is there, and it is not
+  pub nine-is-where-it-ends : Bytes xs → (before : List ℕ) → readAnswer xs before ≡ NotRead (EndsEarly p at) → EndsIn xs p at
+  nine-is-where-it-ends = answer-ends
+
+  -- every such chunk is told so; and there is one such thing only
+  pub where-it-ends-is-nine : EndsIn xs p at → length xs ≤ longestChunk → (before : List ℕ) → longestListing ≤ length before → readAnswer xs before ≡ NotRead (EndsEarly p at)
+  where-it-ends-is-nine = ends-answer
+
+  pub one-end : {q : Part} {i : ℕ} → EndsIn xs p at → EndsIn xs q i → length xs ≤ longestChunk → (p ≡ q) × (at ≡ i)
+  one-end = ends-once
+
+-- of a segment: the chunk that it completes ends so
+module _ (d : Desk) (xs first second : List ℕ) where
+  pub segment-nine : Bytes (d .bytes) → Bytes xs → (p : Part) (at : ℕ) → segmentAfter d xs first second .answer ≡ Refused (EndsEarly p at) → EndsIn (chunkIn (slotHolding d xs)) p at
+  segment-nine = refusal-ends d xs first second
+
+  -- the offset is at most the chunk's length, here and of the reader; no other number tells one
+  pub segment-offset : (f : Refusal) → segmentAfter d xs first second .answer ≡ Refused f → offsetOf f ≤ length (chunkIn (slotHolding d xs))
+  segment-offset = refusal-within d xs first second
+
+pub reader-offset : (xs before : List ℕ) (f : Refusal) → readAnswer xs before ≡ NotRead f → offsetOf f ≤ length xs
+reader-offset = answer-within
+
+pub only-nine : (f : Refusal) → (numberOf f ≡ 9 → ⊥) → offsetOf f ≡ 0
+only-nine = no-offset
+
+-- document 01's 11 bytes end in their service, at 9; and which chunks get 9, or any number, has not changed
+pub some-end : EndsIn cutChunk SingleService 9
+some-end = cut-ends
+
+pub numbers-as-before : (xs : List ℕ) → checkedNumber (checks xs) ≡ chunkNumber xs
+numbers-as-before = fields.chunk-numbered
+
+-- ---- how long a listing is
 
 -- a listing's length, from the numbers of its known ensembles, of its unknown ones, and of its services
 module _ (l : FicList) where

@@ -13,7 +13,7 @@ use Rattle.meaning.specs.declared.Refusal.{Refusal}
 use Rattle.meaning.specs.declared.Refusal.the-variants.{OtherMajor}
 use Rattle.meaning.specs.declared.Read.the-variants.{Listed}
 use Rattle.meaning.specs.Sizes.{longestChunk, longestListing}
-use Rattle.meaning.specs.Numbers.{numberOf, readValues}
+use Rattle.meaning.specs.Numbers.{numberOf, offsetOf, readValues}
 use Rattle.meaning.specs.Lists.{FicList, kindOf, currentOf}
 use Rattle.meaning.specs.Layout.{Carries}
 use Rattle.meaning.specs.Listing.{listing}
@@ -39,15 +39,15 @@ use Rattle.lines.specs.Lines.{answerLines}
 
 -- ---- the reader
 
--- it refuses with f: one of these numbers, every other value 0, and nothing is written
+-- it refuses with f: one of these numbers, its offset, every other value 0, and nothing is written
 pub record ReadRefused (xs before : List ℕ) (f : Refusal) : Type 0 where
   pub number : T (among (1 ∷ 5 ∷ 8 ∷ 9 ∷ []) (numberOf f))
-  pub values : readValues (readAnswer xs before) ≡ record { number = numberOf f; kind = 0; minor = 0; length = 0 }
+  pub values : readValues (readAnswer xs before) ≡ record { number = numberOf f; at = offsetOf f; kind = 0; minor = 0; length = 0 }
   pub buffer : readBuffer xs before ≡ before
 
 -- it reads the list l for the frame k in the minor edition m; the buffer past the listing stays
 pub record ReadList (xs before : List ℕ) (k : Kind) (m : ℕ) (l : FicList) : Type 0 where
-  pub values : readValues (readAnswer xs before) ≡ record { number = 0; kind = currentOf k; minor = m; length = length (listing l) }
+  pub values : readValues (readAnswer xs before) ≡ record { number = 0; at = 0; kind = currentOf k; minor = m; length = length (listing l) }
   pub buffer : readBuffer xs before ≡ listing l ++ drop (length (listing l)) before
 
 -- xs is a chunk that carries a list of n bytes, and `after` begins with it
@@ -85,16 +85,16 @@ countFor xs = segmentCount (plainLength (listSaid xs))
 -- it refuses a segment with f
 pub record SegmentRefused (f : Refusal) (a : Answer) : Type 0 where
   pub number : T (among (1 ∷ 2 ∷ 3 ∷ 4 ∷ 5 ∷ 6 ∷ 7 ∷ 9 ∷ 10 ∷ 12 ∷ []) (numberOf f))
-  pub values : answerValues a ≡ record { number = numberOf f; missing = 0; kind = 0; length = 0 }
+  pub values : answerValues a ≡ record { number = numberOf f; at = offsetOf f; missing = 0; kind = 0; length = 0 }
 
 -- it answers a list of the kind k and n bytes
 pub record SegmentListed (d : Desk) (xs first second : List ℕ) (k : Kind) (n : ℕ) (r : After) : Type 0 where
-  pub values : answerValues (r .answer) ≡ record { number = 0; missing = 0; kind = currentOf k; length = n }
+  pub values : answerValues (r .answer) ≡ record { number = 0; at = 0; missing = 0; kind = currentOf k; length = n }
   pub lists : Lists d xs first second k n r
 
 -- it answers that n are missing
 pub record SegmentMissing (d : Desk) (xs first second : List ℕ) (n : ℕ) (r : After) : Type 0 where
-  pub values : answerValues (r .answer) ≡ record { number = 0; missing = n; kind = 0; length = 0 }
+  pub values : answerValues (r .answer) ≡ record { number = 0; at = 0; missing = n; kind = 0; length = 0 }
   pub waits : Waits d xs first second n r
 
 -- two desks are well formed, and agree on the slot of the segment's kind; the buffers lent to them have the same lengths
@@ -195,7 +195,8 @@ pub record ReadParts (xs buffer : List ℕ) (r : ℕ) : Type 0 where
   pub number : r % 0x100 ≡ readValues (readAnswer xs buffer) .number
   pub kind : r / 0x100 % 2 ≡ readValues (readAnswer xs buffer) .kind
   pub minor : r / 0x200 % 8 ≡ readValues (readAnswer xs buffer) .minor
-  pub length : r / 0x10000 ≡ readValues (readAnswer xs buffer) .length
+  pub length : r / 0x10000 % 0x10000 ≡ readValues (readAnswer xs buffer) .length
+  pub at : r / 0x100000000 ≡ readValues (readAnswer xs buffer) .at
 
 pub record WriteParts (xs : List ℕ) (k : Kind) (output : List ℕ) (r : ℕ) : Type 0 where
   pub number : r % 0x100 ≡ writtenValues (writeAnswer xs k output) .number

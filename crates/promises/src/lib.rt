@@ -23,7 +23,7 @@ ghost use lib.ListN.{drop};
 ghost use Rattle.octets.specs.Checks.{among};
 ghost use Rattle.octets.specs.Word.{word, high, low};
 ghost use Rattle.meaning.specs.Lists.{kindOf, currentOf};
-ghost use Rattle.meaning.specs.Numbers.{numberOf};
+ghost use Rattle.meaning.specs.Numbers.{numberOf, offsetOf};
 ghost use Rattle.meaning.specs.Reading.{checks, readAnswer, readBuffer, ReadSays};
 ghost use Rattle.segments.specs.Segment.{segmentChecks};
 ghost use Rattle.writer.specs.Writing.{unwrittenNumber, writeAnswer, writeOutput, WriteSays};
@@ -170,6 +170,12 @@ pub fn number_of(refusal: Refusal) -> u8
     ensures { λ r. ⌜ r ≡ numberOf refusal ⌝ }
 {
     meaning::number_of(refusal)
+}
+
+pub fn offset_of(refusal: Refusal) -> u16
+    ensures { λ r. ⌜ r ≡ offsetOf refusal ⌝ }
+{
+    meaning::offset_of(refusal)
 }
 
 pub fn unwritten_number(refusal: Unwritten) -> u8

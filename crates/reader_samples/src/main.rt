@@ -26,7 +26,7 @@ fn say_answer(answer: Read, buffer: &[u8]) {
             tell::say_hex(buffer, n);
             length = n;
         }
-        Read::Refused(refusal) => tell::say_number(meaning::number_of(refusal) as u64),
+        Read::Refused(refusal) => tell::say_refusal(refusal),
     }
     tell::say_kept(buffer, length, BEFORE);
 }
@@ -110,7 +110,7 @@ fn order() {
     run(b"major 3, header cut", b"\xC7\x03\x01", LONGEST_LISTING);
     run(
         b"header cut in its extension",
-        b"\x07\x03\x01\x23\x00\x00\x00\x00\x00\x00\x00",
+        b"\x07\x03\x01\x23\x00\x00\x00\x00\x00\x00",
         LONGEST_LISTING,
     );
     run(
@@ -174,6 +174,41 @@ fn counts() {
     run(
         b"255 ensembles",
         b"\x00\x03\x01\x23\xFF\x05\xE0\x83\x00\x06\xE0\x00\x00",
+        LONGEST_LISTING,
+    );
+}
+
+// Where a chunk runs out: in its header, in an ensemble's fields, in its first, a middle and its last service.
+fn cuts() {
+    run(b"header cut after its flags", b"\x00\x03", LONGEST_LISTING);
+    run(
+        b"header cut before its count",
+        b"\x07\x03\x01\x23\x00\x00\x00\x00\x00\x00",
+        LONGEST_LISTING,
+    );
+    run(
+        b"h 3, ensemble's fields cut",
+        b"\x03\x03\x01\x23\x00\x00\x00\x01\x05\xE0",
+        LONGEST_LISTING,
+    );
+    run(
+        b"h 3, e 2, first service cut",
+        b"\x03\x43\x01\x23\x00\x00\x00\x01\x05\xE0\x83\x00\x00\x02\x0A",
+        LONGEST_LISTING,
+    );
+    run(
+        b"h 2, s 1, a middle service cut",
+        b"\x02\x07\x01\x23\x00\x00\x01\x05\xE0\x83\x03\x0A\x01\xE6\xDD\x0A\x02\xE6",
+        LONGEST_LISTING,
+    );
+    run(
+        b"s 7, the last service cut in its extension",
+        b"\x00\x1F\x01\x23\x01\x05\xE0\x83\x02\x0A\x01\xE6\x00\x00\x00\x00\x00\x00\x00\x0A\x02\xE6\x00\x00\x00\x00\x00\x00",
+        LONGEST_LISTING,
+    );
+    run(
+        b"second of version 9, its second service cut",
+        b"\x00\x03\x01\x23\x02\x05\xE0\x83\x01\x0A\x01\xE6\x06\xE9\x83\x02\x0B\x01\xE6\x0B\x02",
         LONGEST_LISTING,
     );
 }
@@ -264,6 +299,7 @@ fn main() {
     order();
     unknown();
     counts();
+    cuts();
     longest();
     all_unknown();
     extended();

@@ -1,5 +1,5 @@
 -- Laws of a call and of its lines in the code's own terms. Assumes nothing.
-use mathlib.Core.Path.{_≡_, sym, ap, ap₂, subst, _∙_}
+use mathlib.Core.Path.{_≡_, refl, sym, ap, ap₂, subst, _∙_}
 use mathlib.Core.Bool.{true, false, not}
 use mathlib.Core.List.{List, _++_}
 use Prim.Native.Nat.{ℕ, _+_, _-_, _≤_}
@@ -36,7 +36,8 @@ use Rattle.desk.proofs.Laws.{frame-fit, shown-long, shown-is, shown-fits, shown
 use Rattle.effects.proofs.Keeps.{frame-fits}
 use Rattle.effects.proofs.Frames.{listed-shown}
 use Rattle.effects.proofs.Calls.{lent-whole, left-whole}
-use Rattle.lines.specs.Lines.{frameLines, gatheringLine, answerLines}
+use Rattle.lines.specs.Lines.{frameLines, gatheringLine, listLines, answerLines}
+use Rattle.lines.proofs.Laws.{listed-lines}
 use Rattle.replay.specs.Log.{logForm, callOf, linesOf, logProgram, CallSays}
 
 -- ---- a new frame: what it shows
@@ -82,9 +83,10 @@ module _ (d : Desk) (xs first second : List ℕ) (r : After) (is : r ≡ segment
     pub listed-small : (l : List ℕ) → l ≡ take n (lentFor k (r .desk .notes .swapped) (r .first) (r .second)) → length l ≤ longestListing
     listed-small l is′ = omega (arith, ap length is′, length-take-le n (lentFor k (r .desk .notes .swapped) (r .first) (r .second)) listed-room, shows .3)
 
-    pub listed-same : (l : List ℕ) → l ≡ take n (lentFor k (r .desk .notes .swapped) (r .first) (r .second)) → answerLines (NewList k n) l ≡ answerLines (segmentAfter d xs first second .answer) (shown (segmentKind xs) (r .desk) (r .first) (r .second))
+    pub listed-same : (l : List ℕ) → l ≡ take n (lentFor k (r .desk .notes .swapped) (r .first) (r .second)) → listLines k l ≡ answerLines (segmentAfter d xs first second .answer) (shown (segmentKind xs) (r .desk) (r .first) (r .second))
     listed-same l is′ =
-        ap₂ answerLines (sym e ∙ answer-is)
+        listed-lines (NewList k n) k n l refl
+        ∙ ap₂ answerLines (sym e ∙ answer-is)
         (is′
         ∙ ap (λ t. take n (lentFor k t (r .first) (r .second))) (shows .2)
         ∙ sym (shows .4)

@@ -26,6 +26,7 @@ use Rattle.desk.specs.Calls.{Call, frame, gathering, segment, State, shownIn, l
 use Rattle.desk.proofs.Laws.{shown-small}
 use Rattle.effects.proofs.Keeps.{gathering-fits, frame-fits, segment-fits}
 use Rattle.effects.proofs.Accepted.{missing-few}
+use Rattle.effects.proofs.Ends.{refusal-small}
 use Rattle.effects.proofs.Calls.{left-lengths, wholly-again}
 use Rattle.lines.specs.Lines.{longestLines}
 use Rattle.lines.proofs.Laws.{length-frame, Countable, length-answer}
@@ -93,7 +94,7 @@ length-shown k s =
 few : (d : Desk) (xs first second : List ℕ) (a : Answer) → segmentAfter d xs first second .answer ≡ a → Countable a
 few d xs first second (Missing n) is = omega (arith, missing-few d xs first second n is)
 few d xs first second (NewList k n) is = tt
-few d xs first second (Refused f) is = tt
+few d xs first second (Refused f) is = omega (arith, refusal-small d xs first second f is)
 
 told-fits : (s : State) (c : Call) → length (linesOf (toldBy segmentAfter s c)) ≤ longestLines
 told-fits s frame = length-frame (shownIn This (leftBy segmentAfter s frame)) (length-shown This (leftBy segmentAfter s frame))

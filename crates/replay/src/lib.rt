@@ -113,29 +113,21 @@ fn segment(
     match answer {
         Answer::NewList { kind, length } => {
             let listing = notes::part(kind, after.swapped, length, first, second);
-            let end = lines::put_answer(
-                Answer::NewList {
-                    kind: kind,
-                    length: length,
-                },
-                listing,
-                out,
-                to,
-            );
+            let end = lines::put_list(kind, listing, out, to);
             Turned {
                 notes: after,
                 to: end,
             }
         }
         Answer::Missing(n) => {
-            let end = lines::put_answer(Answer::Missing(n), b"", out, to);
+            let end = lines::put_missing(n, out, to);
             Turned {
                 notes: after,
                 to: end,
             }
         }
         Answer::Refused(refusal) => {
-            let end = lines::put_answer(Answer::Refused(refusal), b"", out, to);
+            let end = lines::put_refused(refusal, out, to);
             Turned {
                 notes: after,
                 to: end,

@@ -11,7 +11,7 @@ use Rattle.meaning.specs.declared.Kind.{Kind}
 use Rattle.meaning.specs.declared.Refusal.the-variants.{Clash, KindDiffers}
 use Rattle.meaning.specs.declared.Checked.{Checked}
 use Rattle.meaning.specs.declared.Checked.the-variants.{Fine, Fault}
-use Rattle.meaning.specs.Numbers.{numberOf}
+use Rattle.meaning.specs.Numbers.{numberOf, offsetOf}
 use Rattle.meaning.specs.Lists.{currentOf}
 use Rattle.meaning.specs.Listing.{listing}
 use Rattle.meaning.specs.Checks.{andThen}
@@ -22,19 +22,20 @@ use Rattle.slots.specs.declared.Answer.the-variants.{Missing, NewList, R
 use Rattle.segments.specs.Segment.{payloadBytes, numberIn, payloadIn}
 use Rattle.slots.specs.Slots.{noBytes, holds, spoiledSlot, missingIn, clashing, holding}
 
--- ---- an answer in document 01's numbers: its number, 0 where it is no refusal; how many are missing; the kind of the listing, 1 for this frame
--- and 0 for the next, and its length. What an answer does not say is 0
+-- ---- an answer in document 01's numbers: its number, 0 where it is no refusal, and the offset that a refusal tells; how many are missing; the
+-- kind of the listing, 1 for this frame and 0 for the next, and its length. What an answer does not say is 0
 
 pub record AnswerValues : Type 0 where
   pub number : ℕ
+  pub at : ℕ
   pub missing : ℕ
   pub kind : ℕ
   pub length : ℕ
 
 abbrev pub answerValues : Answer → AnswerValues
-answerValues (Missing n) = record { number = 0; missing = n; kind = 0; length = 0 }
-answerValues (NewList k n) = record { number = 0; missing = 0; kind = currentOf k; length = n }
-answerValues (Refused f) = record { number = numberOf f; missing = 0; kind = 0; length = 0 }
+answerValues (Missing n) = record { number = 0; at = 0; missing = n; kind = 0; length = 0 }
+answerValues (NewList k n) = record { number = 0; at = 0; missing = 0; kind = currentOf k; length = n }
+answerValues (Refused f) = record { number = numberOf f; at = offsetOf f; missing = 0; kind = 0; length = 0 }
 
 -- and whether it is a refusal, as checks say it
 abbrev pub answerFault : Answer → Checked

@@ -1,6 +1,7 @@
 // What the programs that run the samples print with, on standard output.
 use libc::STDOUT_FILENO;
 use meaning::Kind;
+use meaning::Refusal;
 
 pub fn say(text: &[u8]) {
     io::write_all(STDOUT_FILENO, text);
@@ -10,6 +11,16 @@ pub fn say(text: &[u8]) {
 pub fn say_number(n: u64) {
     say(b" ");
     io::print_decimal(STDOUT_FILENO, n);
+}
+
+// A refusal's number, and behind 9 its offset.
+pub fn say_refusal(refusal: Refusal) {
+    let number = meaning::number_of(refusal);
+    say_number(number as u64);
+    if number == 9 {
+        say(b" at");
+        say_number(meaning::offset_of(refusal) as u64);
+    }
 }
 
 pub fn say_kind(kind: Kind) {

@@ -15,7 +15,7 @@ use Rattle.meaning.specs.Layout.{wire}
 use Rattle.meaning.specs.Said.{serviceSaid, servicesSaid, countSaid, afterEN, afterServices, ensembleSaid, ensemblesSaid, listingFits, listSaid}
 use Rattle.meaning.specs.Plain.{plainService, plainEnsemble, plain, plainLength}
 use Rattle.meaning.proofs.Counts.{length-servicesSaid, length-ensemblesSaid}
-use Rattle.meaning.proofs.Rows.{serviceThird, ensembleThird, chunkSecond, serviceRow, ensembleRow, chunkRow, wire-row}
+use Rattle.meaning.proofs.Rows.{serviceThird, ensembleThird, chunkSecond, serviceRow, ensembleFront, ensembleRow, chunkFront, chunkRow, wire-row}
 use Rattle.meaning.proofs.Said.{said-fitting}
 use Rattle.meaning.proofs.Plain.{plain-held, length-plain}
 use Rattle.chunk_puts.specs.Laid.{serviceLaid, servicesLaid, ensembleLaid, ensemblesLaid, chunkLaid}
@@ -36,7 +36,7 @@ services-laid zero zs b = refl
 services-laid (suc n) zs b = ap₂ _++_ (service-laid zs b) (services-laid n (drop svBytes zs) (bytes-drop svBytes zs b))
 
 ensemble-laid : (ys : List ℕ) → Bytes ys → ensembleLaid ys ≡ ensembleRow (plainEnsemble (known (ensembleSaid ys)))
-unfolding ensembleLaid ensembleRow
+unfolding ensembleLaid ensembleRow ensembleFront
 ensemble-laid ys b =
     let f : ℕ = getD ys 3 0 in
     let third : f * 32 + getD ys 4 0 ≡ ensembleThird (plainEnsemble (known (ensembleSaid ys))) = omega (arith, div-div-eq-div-mul f 2 2) in
@@ -52,7 +52,7 @@ ensembles-laid (suc n) ys b =
     (ensembles-laid n (afterServices ys) (bytes-drop (svBytes * countSaid ys) (afterEN ys) (bytes-drop enBytes ys b)))
 
 chunk-laid : (k : Kind) (xs : List ℕ) → Bytes xs → chunkLaid k xs ≡ chunkRow (plain k (listSaid xs))
-unfolding chunkLaid chunkRow listSaid
+unfolding chunkLaid chunkRow chunkFront listSaid
 chunk-laid k xs b =
     let n : ℕ = getD xs 4 0 in
     let rows : List ℕ = flatMap ensembleRow (map plainEnsemble (ensemblesSaid n (drop tsBytes xs))) in

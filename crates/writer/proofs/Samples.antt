@@ -5,7 +5,7 @@ use Prim.Native.Nat.{ℕ, zero, suc}
 use lib.ListN.{take, replicate}
 use Rattle.octets.specs.Bits.{bits, laid, number, octets, bytesOf}
 use Rattle.meaning.specs.declared.Kind.the-variants.{This}
-use Rattle.meaning.specs.Layout.{serviceFields, ensembleFields, chunkFields, wire}
+use Rattle.meaning.specs.Layout.{serviceFields, ensembleHead, ensembleFields, chunkHead, chunkFields, wire}
 use Rattle.meaning.specs.Said.{svFits, servicesFit, servicesSaid, enFits, ensemblesFit, ensemblesSaid, listingFits, listSaid}
 use Rattle.meaning.specs.Lists.{servicesOf}
 use Rattle.segments.specs.Segment.{headFields, segment}
@@ -60,10 +60,10 @@ samples =
     ∷ []
 
 samples-hold : map (λ s. given (s .listing)) samples ≡ samples
-unfolding samples given sample output unknown stream ensemble services writeAnswer plainSegments wire chunkFields ensembleFields serviceFields bytesOf octets number laid bits flatMap listingFits ensemblesFit enFits servicesFit svFits listSaid ensemblesSaid servicesSaid servicesOf upFrom
+unfolding samples given sample output unknown stream ensemble services writeAnswer plainSegments wire chunkFields chunkHead ensembleFields ensembleHead serviceFields bytesOf octets number laid bits flatMap listingFits ensemblesFit enFits servicesFit svFits listSaid ensemblesSaid servicesSaid servicesOf upFrom
 samples-hold = refl
 
 -- the first of them: one segment, then the output as it was
 first-written : take 38 (writeOutput (stream 1 (1 ∷ [])) This output) ≡ (0x32 ∷ 0x00 ∷ 0x00 ∷ 0x03 ∷ 0x01 ∷ 0x23 ∷ 0x01 ∷ 0x05 ∷ 0xE0 ∷ 0x83 ∷ 0x01 ∷ 0x0A ∷ 0x01 ∷ 0xE6 ∷ []) ++ replicate 23 0xFF ++ (0 ∷ [])
-unfolding output stream ensemble services writeAnswer writeOutput plainSegments wire chunkFields ensembleFields serviceFields bytesOf octets number laid bits flatMap listingFits ensemblesFit enFits servicesFit svFits listSaid ensemblesSaid servicesSaid servicesOf pieceOf segment headFields upFrom
+unfolding output stream ensemble services writeAnswer writeOutput plainSegments wire chunkFields chunkHead ensembleFields ensembleHead serviceFields bytesOf octets number laid bits flatMap listingFits ensemblesFit enFits servicesFit svFits listSaid ensemblesSaid servicesSaid servicesOf pieceOf segment headFields upFrom
 first-written = refl

@@ -1,12 +1,14 @@
 -- `chunk_checks::check_ensembles` meets its contract. The loop's invariant: the checks on what is left, from here on, are the checks asked for.
 -- The measure is the number of ensembles left. Assumes nothing.
 use native.Mathlib.Omega.{arith}
-use Prim.Native.Nat.{_≤_}
+use Prim.Native.Nat.{_+_, _-_, _*_, _/_, _≤_}
 use mathlib.Core.Path.{_≡_, refl, sym, _∙_}
 use lib.ListN.{length, drop}
+use Rattle.meaning.specs.Sizes.{ensembleBytes, serviceBytes}
 use Rattle.meaning.specs.Reading.{ensemblesChecks}
-use Rattle.chunk_checks.proofs.Laws.{room-small, none-there, short-there, crowded-there, next-there}
-use native.Mathlib.Nat.{lt-trans}
+use Rattle.meaning.proofs.Checks.{room-small}
+use Rattle.chunk_checks.proofs.Laws.{none-there, short-there, crowded-there, next-there}
+use native.Mathlib.Nat.{lt-trans, div-mul-le-self}
 use lib.Dec.{lit<}
 use denote.Ref.{now}
 use Rattle.chunk_checks.proofs.check_ensembles.Statement.{statement}
@@ -14,7 +16,7 @@ use Rattle.chunk_checks.proofs.check_ensembles.Tie as tie
 
 abbrev Inv-loop : tie.InvT-loop
 Inv-loop chunk from e s count at₀ left₀ at left =
-    (at ≤ length chunk) × (ensemblesChecks e s left (drop at chunk) ≡ ensemblesChecks e s count (drop from chunk))
+    (at ≤ length chunk) × (ensemblesChecks e s left at (drop at chunk) ≡ ensemblesChecks e s count from (drop from chunk))
 
 abbrev μ-loop : tie.MeasureT-loop
 μ-loop chunk from e s count at₀ left₀ at left = left
@@ -27,6 +29,9 @@ sub-if1 c = omega arith
 
 add-if1 : tie.Need-add-if1 Inv-loop μ-loop
 add-if1 c = omega arith
+
+cast-start : tie.Need-cast-start Inv-loop μ-loop
+cast-start c = omega arith
 
 returns : tie.Need-returns Inv-loop μ-loop
 returns c =
@@ -52,15 +57,33 @@ add-inside c = omega arith
 add-inside-2 : tie.Need-add-inside-2 Inv-loop μ-loop
 add-inside-2 c = omega arith
 
-add-room : tie.Need-add-room Inv-loop μ-loop
-add-room c = omega arith
+add-width : tie.Need-add-width Inv-loop μ-loop
+add-width c = omega arith
 
 mul-room : tie.Need-mul-room Inv-loop μ-loop
-mul-room c =
-    record { fits = lt-trans (room-small (c .shared-slice-known .given _ .fits) (c .before .before .before .before .pre .3)) (lit< tt) }
+mul-room c = record { fits = lt-trans (room-small (c .shared-slice-known .given _ .fits) (omega arith)) (lit< tt) }
 
 sub-rest : tie.Need-sub-rest Inv-loop μ-loop
 sub-rest c = omega arith
+
+div-fit : tie.Need-div-fit Inv-loop μ-loop
+div-fit c = omega arith
+
+-- whole services take no more than is left, of either extension length
+fit-inside : (c : tie.Then2 Inv-loop μ-loop) →
+    let a = c .before .before .before .before .before .args in
+    let rest = length (now (a .chunk)) - (c .before .before .before .before .loop .at + (ensembleBytes + a .e)) in
+    (rest / (serviceBytes + a .e) * (serviceBytes + a .e) ≤ rest) × (rest / (serviceBytes + a .s) * (serviceBytes + a .s) ≤ rest)
+fit-inside c = (div-mul-le-self _ _, div-mul-le-self _ _)
+
+mul-next : tie.Need-mul-next Inv-loop μ-loop
+mul-next c = omega (arith, fit-inside c)
+
+add-next : tie.Need-add-next Inv-loop μ-loop
+add-next c = omega (arith, fit-inside c)
+
+cast-next : tie.Need-cast-next Inv-loop μ-loop
+cast-next c = omega (arith, fit-inside c)
 
 returns-2 : tie.Need-returns-2 Inv-loop μ-loop
 returns-2 c =
@@ -104,6 +127,7 @@ check-ensembles-spec =
     loop-holds
     sub-if1
     add-if1
+    cast-start
     returns
     add-services
     add-services-2
@@ -111,9 +135,13 @@ check-ensembles-spec =
     cast-services
     add-inside
     add-inside-2
-    add-room
+    add-width
     mul-room
     sub-rest
+    div-fit
+    mul-next
+    add-next
+    cast-next
     returns-2
     add-at
     sub-left

@@ -23,7 +23,7 @@ Inv-loop chunk from e s count out₀ start at₀ to₀ left₀ out at to left =
     let rest = flatMap ensembleListing (ensemblesAt e s left (drop at chunk)) in
     let all = flatMap ensembleListing (ensemblesAt e s count (drop from chunk)) in
     (at ≤ length chunk)
-    × (ensemblesChecks e s left (drop at chunk) ≡ Fine)
+    × (ensemblesChecks e s left at (drop at chunk) ≡ Fine)
     × (length out ≡ length out₀)
     × (to + length rest ≡ start + length all)
     × (sets out to rest ≡ sets out₀ start all)
@@ -50,7 +50,7 @@ there : (c : tie.After-slice-known2 Inv-loop μ-loop) →
     let l = c .before .before .before .before .before .loop in
     let xs = now (a .chunk) in
     let k = getD xs (l .at + (3 + a .e)) 0 in
-    (after (l .at) (a .e) (a .s) k ≤ length xs) × (ensemblesChecks (a .e) (a .s) (l .left - 1) (drop (after (l .at) (a .e) (a .s) k) xs) ≡ Fine)
+    (after (l .at) (a .e) (a .s) k ≤ length xs) × (ensemblesChecks (a .e) (a .s) (l .left - 1) (after (l .at) (a .e) (a .s) k) (drop (after (l .at) (a .e) (a .s) k) xs) ≡ Fine)
 there c =
     let a = c .before .before .before .before .before .before .before .before .args in
     let l = c .before .before .before .before .before .loop in

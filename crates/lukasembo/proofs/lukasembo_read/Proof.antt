@@ -1,7 +1,7 @@
 -- `lukasembo::lukasembo_read` meets its contract: the reader's promise, told. Assumes nothing.
 use mathlib.Core.Path.{ap, _∙_}
 use Rattle.lukasembo.specs.Packed.{packedRead}
-use Rattle.lukasembo.proofs.Laws.{listing-short}
+use Rattle.lukasembo.proofs.Laws.{listing-short, offset-small}
 use borrow.Author.Needs.{needs}
 use Rattle.lukasembo.proofs.lukasembo_read.Statement.{statement}
 use Rattle.lukasembo.proofs.lukasembo_read.Tie as tie
@@ -10,7 +10,7 @@ read-requires : tie.Need-read-requires
 read-requires c κs = search needs
 
 pack-read-requires : tie.Need-pack-read-requires
-pack-read-requires c κs = rw (c .before .before .read .ensures .answers) (listing-short _ _)
+pack-read-requires c κs = rw (c .before .before .read .ensures .answers) (listing-short _ _, offset-small _ _)
 
 same-length : tie.Need-same-length
 same-length c = search needs
