@@ -10,8 +10,8 @@ here = os.path.dirname(os.path.dirname(os.path.abspath(__file__)))
 rounds, run = int(sys.argv[1]), sys.argv[2:]
 made = here + "/target/c/"
 os.sched_setaffinity(0, {min(os.sched_getaffinity(0))})
-sides = {"log": {"ours": made + "log", "plain": made + "plainlog"}, "unwrap": {"ours": made + "unwrap", "plain": made + "plainunwrap"}}
-makers = {"log": ("makelog", "segments"), "unwrap": ("maketunnel", "packets")}
+sides = {name: {"ours": made + name, "plain": made + "plain" + name} for name in ("log", "unwrap", "wrap")}
+makers = {"log": ("makelog", "segments"), "unwrap": ("maketunnel", "packets"), "wrap": ("makewrap", "packets")}
 silent = {"stdout": subprocess.DEVNULL, "stderr": subprocess.DEVNULL}
 told = time.monotonic()
 
@@ -44,9 +44,9 @@ def make_file(name, what, count, file):
         p.wait()
 
 
-def timed(program, file):
+def timed(program, file, *words):
     """Seconds of user and system time of a program on a file."""
-    with open(file, "rb") as f, started(program, stdin=f, **silent) as p:
+    with open(file, "rb") as f, started(program, *words, stdin=f, **silent) as p:
         _, status, used = os.wait4(p.pid, 0)
         p.returncode = os.waitstatus_to_exitcode(status)
     return used.ru_utime + used.ru_stime
@@ -66,7 +66,7 @@ def memory(program, file):
 
 def calls(side, case):
     """Nanoseconds of a call."""
-    rounds_of_it = "400000" if case.endswith("longest") else "1000000" if case.startswith("unwrap") else "3000000"
+    rounds_of_it = "400000" if case.endswith("longest") else "1000000" if "wrap" in case else "3000000"
     with started(f"{made}bench_{side}", side, case, rounds_of_it, stdout=subprocess.PIPE, text=True) as p:
         said = p.communicate()[0]
     return float(said.split()[4])  # "SIDE CASE N calls T ns each"
@@ -85,10 +85,11 @@ def compared(name, ours, plain):
 
 
 def compare_programs(name, counts, room):
-    for what, count in counts:
+    for what, count, *words in counts:
         file = f"{room}/{what}"
         make_file(name, what, count, file)
-        compared(f"{name}, {count:,} {makers[name][1]}, {what}", lambda: timed(sides[name]["ours"], file), lambda: timed(sides[name]["plain"], file))
+        compared(f"{' '.join((name, *words))}, {count:,} {makers[name][1]}, {what}",
+                 lambda: timed(sides[name]["ours"], file, *words), lambda: timed(sides[name]["plain"], file, *words))
         os.remove(file)
 
 
@@ -114,11 +115,13 @@ def bench(room):
     print(f"{'case':38} medians   least   middle half of {rounds} pairs", flush=True)
     compare_programs("log", (("mixed", 2000000), ("short", 1000000), ("longest", 400000), ("repeats", 2000000)), room)
     compare_programs("unwrap", (("small", 100000), ("mixed", 100000), ("large", 100000), ("split", 500000)), room)
+    compare_programs("wrap", (("small", 1000000, "1400"), ("mixed", 150000, "1400"), ("large", 90000, "1400"), ("mixed", 150000, "200")), room)
     for case in ("read-short", "read-longest", "read-mixed", "write-short", "write-longest", "write-mixed",
-                 "unwrap-small", "unwrap-mixed", "unwrap-large", "unwrap-split"):
+                 "unwrap-small", "unwrap-mixed", "unwrap-large", "unwrap-split", "wrap-small", "wrap-mixed", "wrap-large", "wrap-split"):
         compared(case, lambda: calls("ours", case), lambda: calls("plain", case))
     compare_lengths("log", 2000000, room)
     compare_lengths("unwrap", 60000, room)
+    compare_lengths("wrap", 100000, room)
 
 
 def interrupted(number, _):
@@ -128,8 +131,8 @@ def interrupted(number, _):
 for number in (signal.SIGHUP, signal.SIGINT, signal.SIGTERM):
     if signal.getsignal(number) is not signal.SIG_IGN:
         signal.signal(number, interrupted)
-seconds = 20 + 5 * rounds
+seconds = 25 + 7 * rounds
 long = f"{seconds} seconds" if seconds < 100 else f"{(seconds + 30) // 60} minutes"
-print(f"bench: 18 cases, {rounds} pairs each, then memory: about {long} on x86-64, longer under an emulator", file=sys.stderr, flush=True)
+print(f"bench: 26 cases, {rounds} pairs each, then memory: about {long} on x86-64, longer under an emulator", file=sys.stderr, flush=True)
 with tempfile.TemporaryDirectory(prefix="bench.", dir=made) as room:
     bench(room)

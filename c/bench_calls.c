@@ -1,4 +1,4 @@
-/* Nanoseconds for one call of the reader, the writer or the tunnel's reader.
+/* Nanoseconds for one call of the reader, the writer, the tunnel's reader or its writer.
    bench_calls ours|plain CASE ROUNDS
    Compiled with -DOURS for the one, without for the other; all else is the same. */
 #define _POSIX_C_SOURCE 199309L
@@ -16,11 +16,12 @@ enum {
     LISTING = 1292,
     OUTPUT = 592,
     UNWRAPPED = 4096,
-    ITEMS = 1000,
-    STREAM = 200000 /* bytes of inner packets */
+    LISTS = 1000,
+    STREAM = 200000, /* bytes of inner packets */
+    ITEMS = STREAM / INNER_SHORTEST
 };
 
-/* The length of the listing, the number of segments, or one more than the bytes stored; 0 where refused. */
+/* The length of the listing, the number of segments, or one more than the bytes stored or written; 0 where refused. */
 #ifdef OURS
 #include "lukasembo.h"
 #define WHO "ours"
@@ -45,6 +46,20 @@ static inline uint64_t unwrap_one(const uint8_t *outer, size_t n, uint8_t *outpu
     const uint64_t a = lukasembo_unwrap(&tunnel, outer, n, output, UNWRAPPED);
 
     return lukasembo_number(a) == LUKASEMBO_ACCEPTED ? 1 + lukasembo_stored(a) : 0;
+}
+
+static struct lukasembo_wrapper wrapper;
+
+static void begin_wrap(size_t size)
+{
+    wrapper = lukasembo_wrapper(size, 0);
+}
+
+static inline uint64_t wrap_one(const uint8_t *packet, size_t n, uint8_t *output)
+{
+    const uint64_t a = lukasembo_wrap(&wrapper, packet, n, (uint32_t)n, output, UNWRAPPED);
+
+    return lukasembo_number(a) == LUKASEMBO_ACCEPTED ? 1 + lukasembo_wrote(a) : 0;
 }
 #else
 #include "plain.h"
@@ -72,6 +87,20 @@ static inline uint64_t unwrap_one(const uint8_t *outer, size_t n, uint8_t *outpu
 
     return a.number == 0 ? 1 + a.stored : 0;
 }
+
+static struct plain_wrapper wrapper;
+
+static void begin_wrap(size_t size)
+{
+    plain_wrapper(&wrapper, size, 0);
+}
+
+static inline uint64_t wrap_one(const uint8_t *packet, size_t n, uint8_t *output)
+{
+    const struct plain_wrapped a = plain_wrap(&wrapper, packet, n, (uint32_t)n, output, UNWRAPPED);
+
+    return a.number == 0 ? 1 + a.wrote : 0;
+}
 #endif
 
 struct item {
@@ -82,7 +111,8 @@ struct item {
 
 static struct item items[ITEMS];
 static size_t count;
-static uint8_t store[ITEMS * LISTING], buffer[UNWRAPPED];
+static uint8_t store[LISTS * LISTING], buffer[UNWRAPPED];
+static struct stream stream;
 static volatile uint64_t sink;
 
 static void add(const uint8_t *bytes, size_t n, bool kind)
@@ -98,7 +128,6 @@ static void add(const uint8_t *bytes, size_t n, bool kind)
 /* The outer packets of a stream that ends with a packet, one behind the other. When it begins again there is a gap, and no part. */
 static int make_outers(const char *name)
 {
-    static struct stream stream;
     struct rng rng = {1};
     uint8_t *to = store;
 
@@ -112,8 +141,23 @@ static int make_outers(const char *name)
     return 1;
 }
 
+/* The packets of a stream, for payloads as it is cut. When it begins again, bytes of its end are left. */
+static int make_inners(const char *name)
+{
+    struct rng rng = {1};
+
+    if (!stream_named(&rng, &stream, name, STREAM))
+        return 0;
+    for (count = 0; count < stream.packets; count++) {
+        items[count].bytes = stream.bytes + stream.start[count];
+        items[count].n = stream.start[count + 1] - stream.start[count];
+    }
+    begin_wrap(stream.cut[1]);
+    return 1;
+}
+
 /* The inputs of a case of the reader or the writer; answers 0 for an unknown one. */
-static int make_items(const char *name, int *writer)
+static int make_items(const char *name)
 {
     static const uint8_t sample[] = {0x00, 0x03, 0x01, 0x23, 0x01, 0x05, 0xE0, 0x83, 0x01, 0x0A, 0x01, 0xE6};
     static const uint8_t sample_listing[] = {0x54, 0x53, 0x01, 0x23, 0x01, 0x45, 0x4E, 0x05, 0x04,
@@ -122,15 +166,12 @@ static int make_items(const char *name, int *writer)
     static struct made made;
     struct make_shape shape = {0, 0, 0, 0, 1, 1};
     struct rng rng = {1};
-    const char *size = strchr(name, '-');
+    const int writer = strncmp(name, "write-", 6) == 0;
+    const char *size = strchr(name, '-') + 1;
     unsigned i;
 
-    *writer = strncmp(name, "write-", 6) == 0;
-    if (size == NULL || (!*writer && strncmp(name, "read-", 5) != 0))
-        return 0;
-    size++;
     if (strcmp(size, "short") == 0) {
-        if (*writer)
+        if (writer)
             add(sample_listing, sizeof sample_listing, 1);
         else
             add(sample, sizeof sample, 1);
@@ -138,7 +179,7 @@ static int make_items(const char *name, int *writer)
     }
     if (strcmp(size, "longest") == 0) {
         make_counts(&rng, &list, 1, 183);
-        if (*writer)
+        if (writer)
             make_listing(&list, &made);
         else
             make_chunk(&rng, &list, &shape, &made);
@@ -147,17 +188,17 @@ static int make_items(const char *name, int *writer)
     }
     if (strcmp(size, "mixed") != 0)
         return 0;
-    for (i = 0; i < ITEMS; i++) {
-        if (*writer)
+    for (i = 0; i < LISTS; i++) {
+        if (writer)
             shape.kind = i % 2;
         else {
             shape = make_shape(&rng);
             shape.minor = i % 8;
         }
         make_list(&rng, &list, &shape, MAKE_CHUNK);
-        if (!*writer && i % 4 == 0)
+        if (!writer && i % 4 == 0)
             make_unknown(&rng, &list);
-        if (*writer)
+        if (writer)
             make_listing(&list, &made);
         else {
             make_chunk(&rng, &list, &shape, &made);
@@ -202,58 +243,91 @@ static uint64_t run_writer(unsigned long rounds)
     return sum;
 }
 
-static uint64_t run_unwrap(unsigned long rounds)
+/* Of the tunnel; each of its two calls is put in. */
+static inline __attribute__((always_inline)) uint64_t run_tunnel(unsigned long rounds, uint64_t (*one)(const uint8_t *input, size_t n, uint8_t *output))
 {
     uint64_t sum = 0;
     size_t at = 0;
 
     for (; rounds > 0; rounds--) {
         const struct item *item = &items[at];
-        const uint64_t stored = unwrap_one(item->bytes, item->n, buffer);
+        const uint64_t wrote = one(item->bytes, item->n, buffer);
 
-        sink = stored;
-        sum += stored + buffer[stored / 2];
+        sink = wrote;
+        sum += wrote + buffer[wrote / 2];
         if (++at == count)
             at = 0;
     }
     return sum;
 }
 
+enum sort { READ, WRITE, UNWRAP, WRAP, SORTS };
+static const char *const sort_name[SORTS] = {"read-", "write-", "unwrap-", "wrap-"};
+
+/* Which call a case is of, or SORTS. */
+static enum sort sort_of(const char *name)
+{
+    enum sort sort;
+
+    for (sort = READ; sort < SORTS && strncmp(name, sort_name[sort], strlen(sort_name[sort])) != 0; sort++)
+        ;
+    return sort;
+}
+
+static int make_case(enum sort sort, const char *name)
+{
+    switch (sort) {
+    case READ: case WRITE: return make_items(name);
+    case UNWRAP: return make_outers(name + strlen(sort_name[UNWRAP]));
+    case WRAP: return make_inners(name + strlen(sort_name[WRAP]));
+    default: return 0;
+    }
+}
+
 /* Whether each input is taken. */
-static int all_taken(int writer, int tunnel)
+static int all_taken(enum sort sort)
 {
     size_t i;
 
     for (i = 0; i < count; i++) {
         const struct item *item = &items[i];
 
-        if ((tunnel ? unwrap_one(item->bytes, item->n, buffer)
-             : writer ? write_one(item->bytes, item->n, item->kind, buffer) : read_one(item->bytes, item->n, buffer)) == 0)
+        if ((sort == WRAP ? wrap_one(item->bytes, item->n, buffer) : sort == UNWRAP ? unwrap_one(item->bytes, item->n, buffer)
+             : sort == WRITE ? write_one(item->bytes, item->n, item->kind, buffer) : read_one(item->bytes, item->n, buffer)) == 0)
             return 0;
     }
     return 1;
+}
+
+static uint64_t run(enum sort sort, unsigned long rounds)
+{
+    switch (sort) {
+    case READ: return run_reader(rounds);
+    case WRITE: return run_writer(rounds);
+    case UNWRAP: return run_tunnel(rounds, unwrap_one);
+    default: return run_tunnel(rounds, wrap_one);
+    }
 }
 
 int main(int argc, char **argv)
 {
     struct timespec from, to;
     unsigned long rounds = argc == 4 ? strtoul(argv[3], NULL, 10) : 0;
-    const int tunnel = rounds != 0 && strncmp(argv[2], "unwrap-", 7) == 0;
+    const enum sort sort = rounds != 0 ? sort_of(argv[2]) : SORTS;
     uint64_t sum;
-    int writer = 0;
     double ns;
 
-    if (rounds == 0 || strcmp(argv[1], WHO) != 0 || !(tunnel ? make_outers(argv[2] + 7) : make_items(argv[2], &writer))) {
+    if (rounds == 0 || strcmp(argv[1], WHO) != 0 || !make_case(sort, argv[2])) {
         fprintf(stderr, "usage: bench_calls " WHO " read-short|read-longest|read-mixed|write-short|write-longest|write-mixed"
-                        "|unwrap-small|unwrap-mixed|unwrap-large|unwrap-split ROUNDS\n");
+                        "|unwrap-small|unwrap-mixed|unwrap-large|unwrap-split|wrap-small|wrap-mixed|wrap-large|wrap-split ROUNDS\n");
         return 2;
     }
-    if (!all_taken(writer, tunnel)) {
+    if (!all_taken(sort)) {
         fprintf(stderr, "bench_calls: an input is refused\n");
         return 1;
     }
     clock_gettime(CLOCK_MONOTONIC, &from);
-    sum = tunnel ? run_unwrap(rounds) : writer ? run_writer(rounds) : run_reader(rounds);
+    sum = run(sort, rounds);
     clock_gettime(CLOCK_MONOTONIC, &to);
     ns = (double)(to.tv_sec - from.tv_sec) * 1e9 + (double)(to.tv_nsec - from.tv_nsec);
     printf("%s %s %lu calls %.2f ns each (sum %llu)\n", WHO, argv[2], rounds, ns / (double)rounds, (unsigned long long)sum);

@@ -2,243 +2,136 @@
    every bit of the state and every byte.
    harness_tunnel [--seed N] [--calls M] [--plant ours|plain] [--keep FOLDER], or harness_tunnel --replay FILE
    The input of a difference is written to the folder. How far it has come goes to standard error. */
-#include "lent.h"
+#include "both.h"
 #include "lukasembo.h"
 #include "outer.h"
 #include "tunnel.h"
 
-#include <stdio.h>
-#include <stdlib.h>
 #include <string.h>
 
-enum { PART, INPUT, BUFFER, MEMORIES };
+/* An outer packet; the next packet of a store, whose place the call is given. */
+enum { OUTER, STORE, SORTS };
 
-/* The phases, and how many of 1,000 calls each has. */
-enum phase { IN_ORDER, RUNS, HEADERS, INNER, LENGTHS, OUTPUTS, STATES, CORNERS, STORES, PHASES };
-static const char *const phase_name[PHASES] = {
-    "in order", "gaps and repeats", "headers damaged", "inner damaged", "lengths", "outputs", "states", "corners", "stores"
+enum { IN_ORDER, RUNS, HEADERS, INNER, LENGTHS, OUTPUTS, STATES, CORNERS, STORES, PHASES };
+static const struct phase phases[PHASES] = {
+    {"in order", 200}, {"gaps and repeats", 150}, {"headers damaged", 120}, {"inner damaged", 150}, {"lengths", 60}, {"outputs", 60}, {"states", 70},
+    {"corners", 110}, {"stores", 80}
 };
-static const unsigned phase_share[PHASES] = {200, 150, 120, 150, 60, 60, 70, 110, 80};
 
 /* How a result is made wrong; the seed says which. */
 enum { STORED_BYTE, BYTE_BEHIND, PART_BYTE, PART_BEHIND, HELD, LAST, LOST, GAP, WATCHED, NEXT_LENGTH, WRONGS };
 
-struct call {
-    int phase;
-    int store;       /* 1: the next packet of a store; 0: an outer packet */
-    uint8_t planted; /* 0, or 1 + the side whose result was made wrong */
-    uint8_t how;
-    struct spot spot[MEMORIES];
-    size_t pattern; /* where in the pattern the buffer's bytes begin */
-    size_t n, room, at;
-    uint64_t numbers;
-    uint8_t part[LUKASEMBO_PACKET];
-    const uint8_t *input;
-    int known;                 /* 1: the answer is, and what it stores */
-    uint64_t want;
-    const uint8_t *want_bytes;
-};
+const struct about about = {phases, PHASES, SORTS, WRONGS, "part", LUKASEMBO_PACKET, sizeof(struct plain_tunnel)};
+const char kept_mark[5] = "LKT1", kept_word[] = "tunnel";
 
-struct result {
-    uint64_t answer, numbers;
-    uint8_t *part;
-};
-
-/* What is wrong, or null, and where: a memory, and the byte from its start, or NOWHERE. */
-struct fault {
-    const char *what;
-    int memory;
-    long at;
-};
-
-static struct rng rng;
 static struct stream stream;
 static struct corner corner;
-static struct lent lent[SIDES][MEMORIES];
-
-/* The call at work, and what came of it. Its state is the next call's. */
-static struct call now;
-static struct result result[SIDES];
-static uint64_t phase_end; /* the number of calls at which the phase has had its share */
 
 static struct {
     uint64_t number[256], outers, repeats, gaps, left_out, wraps, packets, ended, losses, lost, parts, stores, read, ends, most;
 } seen;
 
-/* ---- The report ---- */
+/* ---- One call ---- */
 
-static void print_state(const char *who, uint64_t numbers)
+int has_state(void)
+{
+    return now.sort == OUTER;
+}
+
+void print_numbers(const char *who, uint64_t numbers)
 {
     printf("%-6s %016llx  held %u, last %u, %s\n", who, (unsigned long long)numbers, (unsigned)(numbers & 0xFFFF),
            (unsigned)(numbers >> 16 & 0xFFFF), numbers >> 32 != 0 ? "begun" : "not begun");
 }
 
-static void print_answer(const char *who, uint64_t a)
+void print_answer(const char *who, uint64_t a)
 {
     printf("%-6s %016llx  number %u", who, (unsigned long long)a, (unsigned)lukasembo_number(a));
-    if (now.store)
+    if (now.sort == STORE)
         printf(", length %zu\n", lukasembo_length(a));
     else
         printf("%s, gap %u, stored %zu, lost %zu\n", lukasembo_repeat(a) ? ", repeat" : "", lukasembo_gap(a), lukasembo_stored(a), lukasembo_lost(a));
 }
 
-static void print_results(void)
+void print_given(void)
 {
-    static const char *const who[SIDES] = {"ours", "plain"};
-    int side;
-
-    for (side = 0; side < SIDES; side++) {
-        print_answer(who[side], result[side].answer);
-        if (!now.store)
-            print_state("", result[side].numbers);
-    }
-}
-
-void print_call(void)
-{
-    printf("phase %s; ", phase_name[now.phase]);
-    if (now.store)
-        printf("store %zu bytes, %s, at %zu\n", now.n, place_name(now.spot[INPUT]), now.at);
-    else {
-        printf("outer packet %zu bytes, %s; part %s; output %zu bytes, %s\n", now.n, place_name(now.spot[INPUT]), place_name(now.spot[PART]), now.room,
+    if (now.sort == STORE)
+        printf("store %zu bytes, %s, at %zu\n", now.n, place_name(now.spot[INPUT]), (size_t)now.other);
+    else
+        printf("outer packet %zu bytes, %s; part %s; output %zu bytes, %s\n", now.n, place_name(now.spot[INPUT]), place_name(now.spot[STATE]), now.room,
                place_name(now.spot[BUFFER]));
-        print_state("state", now.numbers);
-        printf("part   ");
-        print_hex(now.part, sizeof now.part);
-    }
-    printf("input  ");
-    print_hex(now.input, now.n);
 }
 
-const char kept_mark[5] = "LKT1", kept_word[] = "tunnel";
-
-/* Ten bytes, five numbers of 8 bytes (big-endian), the part, the input. */
-void put_call(FILE *f)
-{
-    putc(now.phase, f);
-    putc(now.store, f);
-    putc(now.planted, f);
-    putc(now.how, f);
-    put_spots(f, now.spot, MEMORIES);
-    put_number(f, now.pattern);
-    put_number(f, now.room);
-    put_number(f, now.at);
-    put_number(f, now.numbers);
-    put_number(f, now.n);
-    fwrite(now.part, 1, sizeof now.part, f);
-    fwrite(now.input, 1, now.n, f);
-}
-
-static void report(const struct fault *fault)
-{
-    print_difference(fault->what, now.planted);
-    if (now.known)
-        print_answer("wanted", now.want);
-    print_results();
-    if (fault->at != NOWHERE)
-        printf("byte %ld from the start of the %s: ours %02x, plain %02x\n", fault->at, fault->memory == PART ? "part" : "output",
-               (fault->memory == PART ? result[OURS].part : lent[OURS][BUFFER].at)[fault->at],
-               (fault->memory == PART ? result[PLAIN].part : lent[PLAIN][BUFFER].at)[fault->at]);
-}
-
-/* ---- One call ---- */
-
-/* The state as the plain side has it. */
-static void lay_plain_state(void)
+const void *plain_state(void)
 {
     static struct plain_tunnel t;
-    struct spot spot = now.spot[PART];
 
     t.begun = (int)(uint32_t)(now.numbers >> 32);
     t.last = (unsigned)(now.numbers >> 16 & 0xFFFF);
     t.held = (size_t)(now.numbers & 0xFFFF);
-    memcpy(t.part, now.part, sizeof t.part);
-    spot.shift &= (uint8_t)~7u; /* where such a struct may stand */
-    lent_lay(&lent[PLAIN][PART], spot, (const uint8_t *)&t, sizeof t);
+    memcpy(t.part, now.memory, sizeof t.part);
+    return &t;
 }
 
-static void lay_all(void)
-{
-    int side;
-
-    for (side = 0; side < SIDES; side++)
-        lent_lay(&lent[side][INPUT], now.spot[INPUT], now.input, now.n);
-    if (now.store)
-        return;
-    for (side = 0; side < SIDES; side++)
-        lent_fill(&lent[side][BUFFER], now.spot[BUFFER], now.pattern, now.room);
-    lent_lay(&lent[OURS][PART], now.spot[PART], now.part, sizeof now.part);
-    lay_plain_state();
-}
-
-static void call_ours(struct result *to)
+void call_ours(struct result *to)
 {
     const uint8_t *input = lent[OURS][INPUT].at;
     struct lukasembo_step step;
 
-    if (now.store) {
-        to->answer = lukasembo_next_packet(input, now.n, now.at);
+    if (now.sort == STORE) {
+        to->answer = lukasembo_next_packet(input, now.n, (size_t)now.other);
         return;
     }
-    to->part = lent[OURS][PART].at;
-    step = lukasembo_unwrap_step(now.numbers, to->part, input, now.n, lent[OURS][BUFFER].at, now.room);
+    to->memory = lent[OURS][STATE].at;
+    step = lukasembo_unwrap_step(now.numbers, to->memory, input, now.n, lent[OURS][BUFFER].at, now.room);
     to->answer = step.answer;
     to->numbers = step.numbers;
 }
 
-/* In the form of ours. */
-static void call_plain(struct result *to)
+void call_plain(struct result *to)
 {
     const uint8_t *input = lent[PLAIN][INPUT].at;
-    struct plain_tunnel *t = (struct plain_tunnel *)lent[PLAIN][PART].at;
+    struct plain_tunnel *t = (struct plain_tunnel *)lent[PLAIN][STATE].at;
     struct plain_unwrapped a;
 
-    if (now.store) {
+    if (now.sort == STORE) {
         size_t length;
-        const int number = plain_next_packet(input, now.n, now.at, &length);
+        const int number = plain_next_packet(input, now.n, (size_t)now.other, &length);
 
         to->answer = (uint64_t)number | (uint64_t)length << 16;
         return;
     }
     a = plain_unwrap(t, input, now.n, lent[PLAIN][BUFFER].at, now.room);
-    to->part = t->part;
+    to->memory = t->part;
     to->answer = (uint64_t)a.number | (uint64_t)(a.repeat != 0) << 8 | (uint64_t)a.gap << 16 | (uint64_t)a.stored << 32 | (uint64_t)a.lost << 48;
     to->numbers = (uint64_t)t->held | (uint64_t)t->last << 16 | (uint64_t)(uint32_t)t->begun << 32;
 }
 
-static int flip(uint8_t *byte)
-{
-    *byte ^= 1;
-    return 1;
-}
-
-static int add_one(uint64_t *number, unsigned bit)
-{
-    *number += UINT64_C(1) << bit;
-    return 1;
-}
-
-/* Makes one side's result wrong, where it can be. */
-static int make_wrong(int side, unsigned how)
+int make_wrong(int side, unsigned how)
 {
     struct result *r = &result[side];
     const size_t stored = lukasembo_stored(r->answer), held = (size_t)(r->numbers & 0xFFFF);
     const struct lent *out = &lent[side][BUFFER];
 
-    if (now.store != (how == NEXT_LENGTH))
+    if ((now.sort == STORE) != (how == NEXT_LENGTH))
         return 0;
     switch (how) {
     case STORED_BYTE: return stored > 0 && flip(out->at + stored - 1);
     case BYTE_BEHIND: return stored < now.room && flip(out->at + stored);
-    case PART_BYTE: return held > 0 && held <= sizeof now.part && flip(r->part + held - 1);
-    case PART_BEHIND: return held < sizeof now.part && flip(r->part + held);
+    case PART_BYTE: return held > 0 && held <= LUKASEMBO_PACKET && flip(r->memory + held - 1);
+    case PART_BEHIND: return held < LUKASEMBO_PACKET && flip(r->memory + held);
     case HELD: return add_one(&r->numbers, 0);
     case LAST: return add_one(&r->numbers, 16);
     case LOST: return add_one(&r->answer, 48);
     case GAP: return lukasembo_gap(r->answer) > 0 && add_one(&r->answer, 16);
-    case WATCHED: return lent[side][PART].before > 0 && flip(lent[side][PART].at - 1);
+    case WATCHED: return lent[side][STATE].before > 0 && flip(lent[side][STATE].at - 1);
     default: return lukasembo_length(r->answer) > 0 && add_one(&r->answer, 16);
     }
+}
+
+size_t written_by(uint64_t a)
+{
+    return now.sort == STORE ? 0 : lukasembo_stored(a);
 }
 
 /* Whether a call changes nothing, by its answer. */
@@ -247,22 +140,23 @@ static int changes_nothing(uint64_t a)
     return lukasembo_repeat(a) || lukasembo_number(a) == LUKASEMBO_SHORT_BUFFER || lukasembo_number(a) == LUKASEMBO_FOREIGN_OUTER;
 }
 
-/* What both do alike and may not do; null if nothing. */
-static const char *rules(void)
+const char *rules(void)
 {
     const struct result *r = &result[OURS];
-    const size_t before = part_held(now.part, (size_t)(now.numbers & 0xFFFF)), stored = lukasembo_stored(r->answer);
+    const size_t before = part_held(now.memory, (size_t)(now.numbers & 0xFFFF)), stored = lukasembo_stored(r->answer);
     size_t held, own, packets;
 
+    if (now.sort == STORE)
+        return NULL;
     if (changes_nothing(r->answer)) {
         if ((r->answer & ~(uint64_t)0x1FF) != 0)
             return "both say more than they may";
-        return r->numbers != now.numbers || memcmp(r->part, now.part, sizeof now.part) != 0 ? "both change the state" : NULL;
+        return r->numbers != now.numbers || memcmp(r->memory, now.memory, LUKASEMBO_PACKET) != 0 ? "both change the state" : NULL;
     }
     held = (size_t)(r->numbers & 0xFFFF);
-    if (r->numbers != (held | (uint64_t)outer_get(now.input + 2) << 16 | UINT64_C(1) << 32) || part_held(r->part, held) != held)
+    if (r->numbers != (held | (uint64_t)outer_get(now.input + 2) << 16 | UINT64_C(1) << 32) || part_held(r->memory, held) != held)
         return "both leave a state that they may not";
-    if (memcmp(r->part + held, now.part + held, sizeof now.part - held) != 0)
+    if (memcmp(r->memory + held, now.memory + held, LUKASEMBO_PACKET - held) != 0)
         return "both change the part behind what is held";
     own = store_own(lent[OURS][BUFFER].at, stored, &packets);
     if (own == STORE_BROKEN || before + now.n - OUTER_HEADER != own + held + lukasembo_lost(r->answer))
@@ -270,79 +164,14 @@ static const char *rules(void)
     return NULL;
 }
 
-static struct fault compare_memories(void)
-{
-    const struct lent *out = lent[OURS] + BUFFER;
-    struct fault fault = {NULL, BUFFER, NOWHERE};
-    const size_t i = same(result[OURS].part, result[PLAIN].part, sizeof now.part);
-
-    if (i < sizeof now.part) {
-        fault = (struct fault){"the parts differ", PART, (long)i};
-        return fault;
-    }
-    if (!lent_watched(&lent[OURS][PART], sizeof now.part) || !lent_watched(&lent[PLAIN][PART], sizeof(struct plain_tunnel)))
-        fault.what = "a byte around the state is changed";
-    else if ((fault.at = lent_differ(out, &lent[PLAIN][BUFFER], now.room)) != NOWHERE)
-        fault.what = fault.at < 0 || fault.at >= (long)now.room ? "the bytes around the outputs differ" : "the outputs differ";
-    else if (lukasembo_stored(result[OURS].answer) > now.room)
-        fault.what = "both answer more than the output holds";
-    else if ((fault.at = lent_changed(out, now.pattern, now.room, lukasembo_stored(result[OURS].answer))) != NOWHERE)
-        fault.what = "both changed a byte that should stay";
-    return fault;
-}
-
-static struct fault compare(void)
+void count(void)
 {
     const uint64_t a = result[OURS].answer;
-    struct fault fault = {NULL, BUFFER, NOWHERE};
-    int side;
-
-    if (a != result[PLAIN].answer)
-        fault.what = "the answers differ";
-    else if (!now.store && result[OURS].numbers != result[PLAIN].numbers)
-        fault.what = "the states' numbers differ";
-    else if (!now.store)
-        fault = compare_memories();
-    if (fault.what != NULL)
-        return fault;
-    for (side = 0; side < SIDES; side++)
-        if (!lent_same(&lent[side][INPUT], now.input, now.n))
-            fault.what = side == OURS ? "ours changed its input" : "plain changed its input";
-    if (fault.what == NULL && now.known && now.want != a)
-        fault.what = "both answer other than wanted";
-    if (fault.what == NULL && now.known && memcmp(lent[OURS][BUFFER].at, now.want_bytes, lukasembo_stored(a)) != 0)
-        fault.what = "both store other than wanted";
-    if (fault.what == NULL && !now.store)
-        fault.what = rules();
-    return fault;
-}
-
-static struct fault run(void)
-{
-    lay_all();
-    at_work = OURS;
-    call_ours(&result[OURS]);
-    at_work = PLAIN;
-    call_plain(&result[PLAIN]);
-    at_work = -1;
-    if (now.planted != 0)
-        make_wrong(now.planted - 1, now.how);
-    else if (plant_due() && make_wrong(plant - 1, seed % WRONGS)) {
-        now.planted = (uint8_t)plant;
-        now.how = seed % WRONGS;
-        plant_done();
-    }
-    return compare();
-}
-
-static void count(void)
-{
-    const uint64_t a = result[OURS].answer;
-    const size_t before = part_held(now.part, (size_t)(now.numbers & 0xFFFF));
+    const size_t before = part_held(now.memory, (size_t)(now.numbers & 0xFFFF));
     size_t packets;
 
     seen.number[lukasembo_number(a)]++;
-    if (now.store) {
+    if (now.sort == STORE) {
         seen.stores++;
         seen.read += lukasembo_length(a) > 0;
         seen.ends += a == 0;
@@ -361,44 +190,12 @@ static void count(void)
         return;
     seen.parts += (result[OURS].numbers & 0xFFFF) > 0;
     seen.wraps += now.numbers >> 32 != 0 && (now.numbers >> 16 & 0xFFFF) > (result[OURS].numbers >> 16 & 0xFFFF);
-    seen.ended += packets > 0 && before > 0 && lukasembo_gap(a) == 0 && memcmp(lent[OURS][BUFFER].at + 4, now.part, before) == 0;
-}
-
-/* Both sides, once; what is left in the state is the next call's. */
-static void hold_both(void)
-{
-    const uint64_t x = rng_next(&rng);
-    struct fault fault;
-    int m;
-
-    for (m = 0; m < MEMORIES; m++)
-        now.spot[m] = any_spot((unsigned)(x >> 10 * m));
-    now.pattern = (size_t)(x >> 48) % PATTERNS;
-    now.planted = 0;
-    fault = run();
-    if (fault.what != NULL) {
-        report(&fault);
-        keep_call();
-        exit(1);
-    }
-    count();
-    if (!now.store) {
-        now.numbers = result[OURS].numbers;
-        memcpy(now.part, result[OURS].part, sizeof now.part);
-    }
-}
-
-/* The call that now has, but for its memories' places, if the phase has not had its share. */
-static void hold(void)
-{
-    if (calls < phase_end && next_call())
-        hold_both();
-    now.known = 0;
+    seen.ended += packets > 0 && before > 0 && lukasembo_gap(a) == 0 && memcmp(lent[OURS][BUFFER].at + 4, now.memory, before) == 0;
 }
 
 static void hold_outer(const uint8_t *outer, size_t n, size_t room)
 {
-    now.store = 0;
+    now.sort = OUTER;
     now.input = outer;
     now.n = n;
     now.room = room;
@@ -456,10 +253,10 @@ static void in_order(void)
     fresh();
     if (sort > 0) {
         make_corner(&rng, &corner);
-        memcpy(now.part, corner.part, sizeof now.part);
+        memcpy(now.memory, corner.part, LUKASEMBO_PACKET);
         k.gap = sort - 1 + rng_edge(&rng, 65533);
         now.numbers = (uint64_t)((k.sequence - 1 - k.gap) & 0xFFFF) << 16 | UINT64_C(1) << 32 | (sort == 2 ? corner.held : 0);
-        k.dropped = part_held(now.part, (size_t)(now.numbers & 0xFFFF));
+        k.dropped = part_held(now.memory, (size_t)(now.numbers & 0xFFFF));
     }
     while (k.payload < stream.payloads)
         hold_known(&k);
@@ -556,12 +353,12 @@ static void disturb(void)
     case 1: now.numbers ^= held ^ rng_below(&rng, (unsigned)held + 1); break;
     case 2: now.numbers ^= held ^ rng_edge(&rng, LUKASEMBO_PACKET + 1); break;
     case 3: now.numbers ^= UINT64_C(1) << (32 + rng_below(&rng, 32)); break;
-    case 4: now.part[rng_below(&rng, 4)] ^= (uint8_t)(1 + rng_below(&rng, 255)); break;
+    case 4: now.memory[rng_below(&rng, 4)] ^= (uint8_t)(1 + rng_below(&rng, 255)); break;
     default:
         if (rng_once_in(&rng, 2))
-            rng_fill(&rng, now.part, sizeof now.part);
-        now.part[0] = (uint8_t)(0x40 | (now.part[0] & 15));
-        outer_put(now.part + 2, (unsigned)held + rng_below(&rng, 40));
+            rng_fill(&rng, now.memory, LUKASEMBO_PACKET);
+        now.memory[0] = (uint8_t)(0x40 | (now.memory[0] & 15));
+        outer_put(now.memory + 2, (unsigned)held + rng_below(&rng, 40));
         break;
     }
 }
@@ -578,7 +375,7 @@ static void corners(void)
 {
     make_corner(&rng, &corner);
     now.numbers = corner.held | (uint64_t)corner.last << 16 | (uint64_t)corner.begun << 32;
-    memcpy(now.part, corner.part, sizeof now.part);
+    memcpy(now.memory, corner.part, LUKASEMBO_PACKET);
     if (rng_once_in(&rng, 16))
         outer_damage(&rng, corner.outer, &corner.n, rng_below(&rng, OUTER_DAMAGES));
     hold_outer(corner.outer, corner.n, any_room(&rng, LUKASEMBO_UNWRAPPED));
@@ -614,50 +411,40 @@ static void stores(void)
         n = damage_store(store, n, i);
     else if (rng_once_in(&rng, 8))
         rng_fill(&rng, store, n);
-    now.store = 1;
+    now.sort = STORE;
     now.input = store;
     now.n = n;
     do {
-        now.at = at;
+        now.other = at;
         hold();
         at += 4 + lukasembo_length(result[OURS].answer);
     } while (lukasembo_length(result[OURS].answer) > 0 && calls < phase_end);
     for (i = 0; i < 4; i++) {
-        now.at = i == 0 ? n + rng_below(&rng, 3) : i == 1 ? (size_t)rng_next(&rng) : rng_below(&rng, (unsigned)n + 8);
+        now.other = i == 0 ? n + rng_below(&rng, 3) : i == 1 ? (size_t)rng_next(&rng) : rng_below(&rng, (unsigned)n + 8);
         hold();
     }
 }
 
 /* ---- All ---- */
 
-static void run_phase(int phase)
+void hold_some(int phase)
 {
     static const uint8_t header[] = {0, 1, 2, 3, 4, 5, 6, 7, 8}, inner[] = {9, 10, 5, 7, 11, 9, 10, 12, 13};
-    const uint64_t from = calls;
 
-    now.phase = phase;
-    now.store = 0;
-    while (calls < phase_end)
-        switch (phase) {
-        case IN_ORDER: in_order(); break;
-        case RUNS: gaps_and_repeats(); break;
-        case HEADERS: damaged(header, sizeof header); break;
-        case INNER: damaged(inner, sizeof inner); break;
-        case LENGTHS: each_outer(give_length); break;
-        case OUTPUTS: each_outer(give_output); break;
-        case STATES: each_outer(give_disturbed); break;
-        case CORNERS: corners(); break;
-        default: stores(); break;
-        }
-    printf("%-18s %llu\n", phase_name[phase], (unsigned long long)(calls - from));
+    switch (phase) {
+    case IN_ORDER: in_order(); break;
+    case RUNS: gaps_and_repeats(); break;
+    case HEADERS: damaged(header, sizeof header); break;
+    case INNER: damaged(inner, sizeof inner); break;
+    case LENGTHS: each_outer(give_length); break;
+    case OUTPUTS: each_outer(give_output); break;
+    case STATES: each_outer(give_disturbed); break;
+    case CORNERS: corners(); break;
+    default: stores(); break;
+    }
 }
 
-static void print_seen(const char *what, uint64_t count)
-{
-    printf("%-48s %11llu\n", what, (unsigned long long)count);
-}
-
-static void print_table(void)
+void print_table(void)
 {
     print_seen("outer packets", seen.outers);
     print_seen("  0, repeats among them", seen.number[0] - seen.read - seen.ends);
@@ -680,67 +467,14 @@ static void print_table(void)
     print_seen("  15", seen.number[15]);
 }
 
-static int run_all(void)
-{
-    uint64_t share = 0;
-    int phase;
-
-    rng.state = seed;
-    printf("seed %llu\n", (unsigned long long)seed);
-    for (phase = 0; phase < PHASES; phase++) {
-        share += phase_share[phase];
-        phase_end = limit * share / 1000;
-        run_phase(phase);
-    }
-    print_table();
-    printf("tunnel %llu calls: no difference\n", (unsigned long long)calls);
-    if (plant != 0)
-        printf("the plant was not found, or no call came for it\n");
-    return plant != 0 ? 2 : 0;
-}
-
 static int replay(const char *name)
 {
-    static uint8_t input[BUFFER_ROOM];
-    FILE *f = open_kept(name);
-    uint8_t head[4];
-    struct fault fault;
+    const int status = get_call(name);
 
-    if (f == NULL || fread(head, 1, sizeof head, f) != sizeof head || !get_spots(f, now.spot, MEMORIES))
-        return not_kept(name, f);
-    now.phase = head[0];
-    now.store = head[1];
-    now.planted = head[2];
-    now.how = head[3];
-    now.pattern = (size_t)get_number(f);
-    now.room = (size_t)get_number(f);
-    now.at = (size_t)get_number(f);
-    now.numbers = get_number(f);
-    now.n = (size_t)get_number(f);
-    now.input = input;
-    if (now.phase >= PHASES || now.store > 1 || now.planted > SIDES || now.how >= WRONGS || now.pattern >= PATTERNS || now.room > BUFFER_ROOM
-        || now.n > sizeof input || fread(now.part, 1, sizeof now.part, f) != sizeof now.part || fread(input, 1, now.n, f) != now.n || getc(f) != EOF)
-        return not_kept(name, f);
-    fclose(f);
-    fault = run();
-    if (fault.what != NULL)
-        report(&fault);
-    else {
-        print_call();
-        print_results();
-    }
-    printf("%s\n", fault.what != NULL ? "a difference" : "no difference");
-    return fault.what != NULL;
+    return status != 0 ? status : replay_call();
 }
 
 int main(int argc, char **argv)
 {
-    int side;
-
-    for (side = 0; side < SIDES; side++) {
-        lent_new(&lent[side][PART], sizeof(struct plain_tunnel));
-        lent_new(&lent[side][INPUT], BUFFER_ROOM);
-        lent_new(&lent[side][BUFFER], BUFFER_ROOM);
-    }
-    return harness(argc, argv, 1700000, run_all, replay);
+    return both(argc, argv, 1700000, replay);
 }

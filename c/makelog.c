@@ -272,5 +272,5 @@ int main(int argc, char **argv)
         put_cut();
     if (words.unknown)
         put_unknown();
-    return all_written("makelog");
+    return all_written("makelog", stdout);
 }

@@ -109,5 +109,5 @@ int main(int argc, char **argv)
     } while (left > 0);
     if (words.cut || words.unknown)
         put_end(words.unknown);
-    return all_written("maketunnel");
+    return all_written("maketunnel", stdout);
 }

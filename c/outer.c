@@ -220,6 +220,35 @@ static unsigned about(struct rng *r, unsigned value)
     }
 }
 
+unsigned length_outside(struct rng *r)
+{
+    return rng_once_in(r, 2) ? rng_edge(r, INNER_SHORTEST - 1) : INNER_LONGEST + 1 + rng_edge(r, 65534 - INNER_LONGEST);
+}
+
+size_t inner_spoil(struct rng *r, uint8_t *packet, size_t n)
+{
+    const unsigned lengths = INNER_LONGEST - INNER_SHORTEST + 1, past = (unsigned)n - INNER_SHORTEST;
+
+    switch (rng_below(r, 5)) {
+    case 0: /* the half byte */
+        packet[0] ^= (uint8_t)((1 + rng_below(r, 15)) << 4);
+        break;
+    case 1: /* it says one more or less */
+        outer_put(packet + 2, (unsigned)n + (rng_once_in(r, 2) ? 1 : (unsigned)-1));
+        break;
+    case 2: /* a length outside the limits */
+        outer_put(packet + 2, length_outside(r));
+        break;
+    case 3: /* another within them */
+        outer_put(packet + 2, INNER_SHORTEST + (past + 1 + rng_below(r, lengths - 1)) % lengths);
+        break;
+    default: /* it has one more or less */
+        n += n == INNER_LONGEST || (n > INNER_SHORTEST && rng_once_in(r, 2)) ? (size_t)-1 : 1;
+        packet[n - 1] = 0x45;
+    }
+    return n;
+}
+
 /* Where one of the inner packets that begin in an outer packet does; 0 if none. */
 static size_t pick_inner(struct rng *r, const uint8_t *outer, size_t n)
 {

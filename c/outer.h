@@ -58,6 +58,12 @@ size_t stream_offset(const struct stream *s, size_t which);
 /* The outer packet of a payload, with this sequence number; what the reader does not look at is random. Answers its length. */
 size_t stream_outer(struct rng *r, const struct stream *s, size_t which, unsigned sequence, uint8_t *to);
 
+/* A length that no inner packet has: 0 to 27, or 1,501 to 65,535. */
+unsigned length_outside(struct rng *r);
+
+/* Makes an inner packet of n bytes one that may not be carried. Answers how many bytes it has: n, or one more or less, within the limits. */
+size_t inner_spoil(struct rng *r, uint8_t *packet, size_t n);
+
 /* One damage of an outer packet in OUTER_ROOM bytes, which must have its header: 0 version, 1 padding, 2 extension, 3 CSRC count, 4 payload type,
    5 marker, 6 sequence number, 7 offset, 8 what is not looked at, 9 the first half byte or 10 the length of an inner packet that begins in it,
    11 any byte, 12 cut short, 13 made longer. */

@@ -49,10 +49,10 @@ static inline int read_words(int argc, char **argv, const char *name, const char
     return 0;
 }
 
-/* The exit status, once all is written. */
-static inline int all_written(const char *name)
+/* The exit status, once all is written; a file that could not be opened is none. */
+static inline int all_written(const char *name, FILE *f)
 {
-    if (fflush(stdout) == 0 && !ferror(stdout))
+    if (f != NULL && fflush(f) == 0 && !ferror(f))
         return 0;
     fprintf(stderr, "%s: the file can't be written\n", name);
     return 2;

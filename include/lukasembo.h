@@ -1,4 +1,4 @@
-/* Lukasembo for programs in C: the reader and the writer of FIC chunks, and the reader of the tunnel, proved to meet the definitions of this repository.
+/* Lukasembo for programs in C: the reader and the writer of FIC chunks, and those of the tunnel, proved to meet the definitions of this repository.
  *
  * Linking. The archive is target/staticlib/liblukasembo.a, made by `rt staticlib lukasembo`. It is for x86-64 and needs nothing of the C library:
  *
@@ -58,7 +58,26 @@
  *     }
  *
  * Nothing is lost in silence: the part before and the payload are, in bytes, the packets stored, the part after and lukasembo_lost, for every outer packet
- * but a repeat and one that is refused with 1 or 16. */
+ * but a repeat and one that is refused with 1 or 16.
+ *
+ * The other way: the tunnel's writer takes inner packets and gives outer packets, all with payloads of one size, 64 to LUKASEMBO_SIZE bytes, chosen once. A
+ * payload that is full is sent by the call that fills it; what is fewer waits in the state, until the next packet or the close, which sends it as one shorter outer
+ * packet. The outer packets of a call stand end to end at the start of its output, each of 12 + size bytes; that of a close is as long as it wrote. An output
+ * of LUKASEMBO_WRAPPED bytes is always enough. A timestamp is that of the call which gave the payload's first byte:
+ *
+ *     struct lukasembo_wrapper wrapper = lukasembo_wrapper(1400, 0); // nothing is left; the first sequence number is 0
+ *     uint8_t output[LUKASEMBO_WRAPPED];
+ *
+ *     while (receive(packet, &length, &timestamp)) {
+ *         size_t wrote = lukasembo_wrote(lukasembo_wrap(&wrapper, packet, length, timestamp, output, sizeof output));
+ *
+ *         for (size_t at = 0; at < wrote; at += 12 + 1400)
+ *             send(output + at, 12 + 1400);
+ *     }
+ *     send(output, lukasembo_wrote(lukasembo_close(&wrapper, output, sizeof output))); // nothing, if it is 0
+ *
+ * What the writer gives, closed and read in order by a fresh reader, are the packets that went in; where up to 65,534 outer packets in a row are missing, only those
+ * packets are lost that had a byte in them. */
 #ifndef LUKASEMBO_H
 #define LUKASEMBO_H
 
@@ -70,10 +89,11 @@
 extern "C" {
 #endif
 
-/* The numbers that these calls give: R the reader, W the writer, T the tunnel's reader, S the reader of a store. */
+/* The numbers that these calls give: R the reader, W the writer, T the tunnel's reader, S the reader of a store, O the tunnel's writer. */
 enum lukasembo_number {
     LUKASEMBO_ACCEPTED = 0,
-    LUKASEMBO_SHORT_BUFFER = 1,   /* R W T: a listing buffer under LUKASEMBO_LISTING bytes, an output under LUKASEMBO_OUTPUT, LUKASEMBO_UNWRAPPED */
+    LUKASEMBO_SHORT_BUFFER = 1,   /* R W T: a listing buffer under LUKASEMBO_LISTING bytes, an output under LUKASEMBO_OUTPUT, LUKASEMBO_UNWRAPPED;
+                                   * O: an output shorter than the outer packets that this call finishes */
     LUKASEMBO_OTHER_MAJOR = 5,    /* R: the major version is not 0 */
     LUKASEMBO_TOO_LONG = 8,       /* R: a chunk over LUKASEMBO_CHUNK bytes */
     LUKASEMBO_ENDS_EARLY = 9,     /* R: a chunk ends too early; lukasembo_offset tells where it ran out */
@@ -81,7 +101,9 @@ enum lukasembo_number {
     LUKASEMBO_TOO_MANY = 14,      /* W: the chunk, 5 + 4 x ensembles + 3 x services bytes, would be over LUKASEMBO_CHUNK */
     LUKASEMBO_BAD_STORE = 15,     /* S: an unknown mark, a record that is cut short, or a length outside the limits */
     LUKASEMBO_FOREIGN_OUTER = 16, /* T: under 12 bytes or over LUKASEMBO_OUTER, not version 2, with padding, extension or CSRC, not payload type 97 */
-    LUKASEMBO_BAD_OFFSET = 17     /* T: a marker, and packet_offset is at or past the payload's end */
+    LUKASEMBO_BAD_OFFSET = 17,    /* T: a marker, and packet_offset is at or past the payload's end */
+    LUKASEMBO_BAD_SIZE = 18,      /* O: a payload size under 64 or over LUKASEMBO_SIZE */
+    LUKASEMBO_NOT_CARRIED = 19    /* O: first half byte not 4, a total length (bytes 2 and 3) outside 28 to LUKASEMBO_PACKET or not the bytes given */
 };
 
 /* current_next: for the next frame, or for this one */
@@ -96,7 +118,9 @@ enum {
     LUKASEMBO_OUTPUT = 592,    /* the segments of the longest chunk; no shorter output is taken */
     LUKASEMBO_OUTER = 1500,    /* the longest outer packet */
     LUKASEMBO_PACKET = 1500,   /* the longest inner packet; the shortest is 28 */
-    LUKASEMBO_UNWRAPPED = 4096 /* more than one call of the tunnel's reader ever stores; no shorter output is taken for it */
+    LUKASEMBO_UNWRAPPED = 4096, /* more than one call of the tunnel's reader ever stores; no shorter output is taken for it */
+    LUKASEMBO_SIZE = 1400,     /* the longest payload of the tunnel's writer; the shortest, but for that of a close, is 64 */
+    LUKASEMBO_WRAPPED = 2824   /* the most that one call of the tunnel's writer writes; a shorter output may do */
 };
 
 /* An answer is one number; these take it apart. */
@@ -124,6 +148,9 @@ static inline bool lukasembo_repeat(uint64_t answer) { return (answer >> 8 & 1) 
 static inline unsigned lukasembo_gap(uint64_t answer) { return (unsigned)(answer >> 16 & 0xFFFF); }
 static inline size_t lukasembo_stored(uint64_t answer) { return (size_t)(answer >> 32 & 0xFFFF); }
 static inline size_t lukasembo_lost(uint64_t answer) { return (size_t)(answer >> 48); }
+
+/* of the tunnel's writer: how many bytes stand at the start of the output */
+static inline size_t lukasembo_wrote(uint64_t answer) { return (size_t)(answer >> 16 & 0xFFFF); }
 
 /* Reads a chunk, of any minor edition, with its stuffing or without. Its listing goes to the start of the buffer and bytes past it stay; a refusal
  * writes nothing. Refusals, in the order of the checks: 1, 8, 9, 5, 9, then for each ensemble 9, 9. */
@@ -159,6 +186,47 @@ static inline uint64_t lukasembo_unwrap(struct lukasembo_tunnel *state, const ui
 
     state->numbers = step.numbers;
     return step.answer;
+}
+
+/* The state of the tunnel's writer. Any content is a state: if as many bytes are left as a payload has, or more, nothing is; a packet that is said to begin at or
+ * behind the end of what is left does not. */
+struct lukasembo_wrapper {
+    uint8_t left[LUKASEMBO_SIZE]; /* first, since it is moved faster from an even place */
+    uint64_t numbers; /* bits 0 to 15 the payload size, 16 to 31 the next sequence number, 32 to 47 how many bytes are left, 48 to 63 where a packet begins in them */
+    uint32_t timestamp; /* of the first of them */
+};
+
+/* A fresh one, with this payload size and this first sequence number. A size of more than 65,535 is as bad as 65,535. */
+static inline struct lukasembo_wrapper lukasembo_wrapper(size_t size, uint16_t first)
+{
+    const struct lukasembo_wrapper fresh = {{0}, (size < 0xFFFF ? size : 0xFFFF) | (uint64_t)first << 16, 0};
+
+    return fresh;
+}
+
+/* The calls with the numbers by value: their new value is in what comes back, with the new timestamp in bits 32 to 63 of the answer; what is left is lent in place,
+ * LUKASEMBO_SIZE bytes. */
+struct lukasembo_step lukasembo_wrap_step(uint64_t numbers, uint32_t since, uint8_t *left, const uint8_t *packet, size_t packet_length, uint32_t timestamp, uint8_t *output, size_t output_length);
+struct lukasembo_step lukasembo_close_step(uint64_t numbers, uint32_t since, const uint8_t *left, uint8_t *output, size_t output_length);
+
+static inline uint64_t lukasembo_keep(struct lukasembo_wrapper *state, struct lukasembo_step step)
+{
+    state->numbers = step.numbers;
+    state->timestamp = (uint32_t)(step.answer >> 32);
+    return step.answer & 0xFFFFFFFF;
+}
+
+/* Takes an inner packet. The outer packets that it fills go to the start of the output, and bytes past them stay. Refusals, in the order of the checks: 18, 19, 1;
+ * they change nothing. */
+static inline uint64_t lukasembo_wrap(struct lukasembo_wrapper *state, const uint8_t *packet, size_t packet_length, uint32_t timestamp, uint8_t *output, size_t output_length)
+{
+    return lukasembo_keep(state, lukasembo_wrap_step(state->numbers, state->timestamp, state->left, packet, packet_length, timestamp, output, output_length));
+}
+
+/* Sends what is left, if anything is, as one outer packet of 12 bytes and that. Refusals: 18, 1; they change nothing. Writing may go on after it. */
+static inline uint64_t lukasembo_close(struct lukasembo_wrapper *state, uint8_t *output, size_t output_length)
+{
+    return lukasembo_keep(state, lukasembo_close_step(state->numbers, state->timestamp, state->left, output, output_length));
 }
 
 /* The next packet of a store, at this place: it is at store + at + 4, and its length is lukasembo_length; the next place is at + 4 + that length. Length 0 is

@@ -1,4 +1,5 @@
-"""What the stored inputs of tests/unwrap_samples.py are made of: inner packets, and cases, from A/324 and document 02."""
+"""What the stored inputs of tests/unwrap_samples.py are made of: inner packets, and cases, from A/324 and document 02. The packets serve
+tests/wrap_pieces.py too."""
 import struct
 
 from tunnel import INNER_MARK, OUTER_MARK, outer_packet, record
@@ -44,3 +45,9 @@ def notice(text):
     ends = bytes([192, 0, 2, 7, 239, 0, 51, 48])
     check = 65535 - sum(struct.unpack(">9H", head + ends)) % 65535
     return head + struct.pack(">H", check) + ends + struct.pack(">HHHH", 30000, 30000, 8 + len(text), 0) + text
+
+
+NOTICES = [notice(text) for text in (
+    b"High water 04:12, 3.9 m", b"Wind west 6, gusts 9", b"Low water 10:31, 0.7 m", b"Swell 1.2 m, falling", b"Fog bank, pier 4 shut",
+    b"High water 16:40, 3.8 m", b"Crew boat sails 17:00", b"Low water 22:55, 0.8 m", b"Wind north 4, calm", b"Pier 4 open from 18:00",
+    b"High water 05:03, 4.0 m")]

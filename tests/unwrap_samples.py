@@ -5,7 +5,7 @@
 
 It writes crates/unwrap_samples/data, crates/unwrap_samples/args, crates/unwrap_samples/stdout, crates/unwrap/stdin and crates/unwrap/stdout.
 A case is made of steps, each a record with the packets and the words that document 02 demands, said here without the reader of
-tests/tunnel.py; both must agree. Only long_run has no such answers.
+tests/tunnel.py; both must agree. Only long_run has no such answers. The outer packets of wrapped and wrapped_gap are those of tests/wrap.py.
 """
 import collections
 import pathlib
@@ -14,9 +14,11 @@ import sys
 
 sys.dont_write_bytecode = True
 
-from outer_pieces import A, B, C, LONG, Case, inner, notice
+from outer_pieces import A, B, C, LONG, NOTICES, Case, inner
 from outer_run import long_run
-from tunnel import OUTER_MARK, outer_packet, record, send, stored_packets, unwrap
+from tunnel import OUTER_MARK, contents, outer_packet, record, send, stored_packets, unwrap
+from wrap import wrap
+from wrap_pieces import SPLIT, split
 
 CRATES = pathlib.Path(__file__).resolve().parent.parent / "crates"
 BLOCKS = 65539, 131072
@@ -26,18 +28,14 @@ SHAPES = ["OP n 16", "OP n 17", "OP n 17 lost n", "OP n 17 gap n", "OP n 17 gap 
 
 def worked():
     # docs/TUNNEL.md takes it apart: of six outer packets, with 90 bytes each, the first came too early, and the fourth is left out
-    notices = [notice(text) for text in (
-        b"High water 04:12, 3.9 m", b"Wind west 6, gusts 9", b"Low water 10:31, 0.7 m", b"Swell 1.2 m, falling", b"Fog bank, pier 4 shut",
-        b"High water 16:40, 3.8 m", b"Crew boat sails 17:00", b"Low water 22:55, 0.8 m", b"Wind north 4, calm", b"Pier 4 open from 18:00",
-        b"High water 05:03, 4.0 m")]
-    _, joined, second, _, later, last = send(notices, 6 * [90], 65533)
+    _, joined, second, _, later, last = send(NOTICES, 6 * [90], 65533)
     case = Case()
-    case.record(joined, notices[2], says="lost 9")
-    case.record(second, notices[3], notices[4])
+    case.record(joined, NOTICES[2], says="lost 9")
+    case.record(second, NOTICES[3], NOTICES[4])
     case.again()
     case.record(outer_packet(0, later[12:], kind=96), says="16")
-    case.record(later, notices[8], says="gap 1 lost 60")
-    case.record(last, notices[9])
+    case.record(later, NOTICES[8], says="gap 1 lost 60")
+    case.record(last, NOTICES[9])
     return case.end(held=48)
 
 
@@ -312,10 +310,37 @@ def broken():
             yield name + "_held" * (part > 0), case.end(part, tail)
 
 
-def shown(name, packets, report, status):
+def wrapped():
+    # what the program wrap gives: all packets come out that went in
+    case = Case()
+    for outer in wrapped_outers():
+        case.record(outer)
+    case.packets += SPLIT
+    return case.end()
+
+
+def wrapped_gap():
+    # a run of three is left out, with bytes 400 to 999 of the packets: the fourth begins at 278, before it, and the eighth ends at 1,140
+    case, (first, second, _, _, _, later, *last) = Case(), wrapped_outers()
+    case.record(first)
+    case.record(second)
+    case.record(later, says="gap 3 lost 262")
+    for outer in last:
+        case.record(outer)
+    case.packets += SPLIT[:3] + SPLIT[8:]
+    return case.end()
+
+
+def wrapped_outers():
+    """What wrap gives for its case split, by tests/wrap.py."""
+    data, *_ = split()
+    return contents(OUTER_MARK, wrap(data, 200)[0])[0]
+
+
+def shown(name, packets, report, status, blocks=BLOCKS):
     """What is printed for a case, read in blocks of both lengths."""
     text = b""
-    for size in BLOCKS:
+    for size in blocks:
         head = f"{name}, blocks of {size}: ".encode()
         text += head + b"packets\n" + packets + b"\n" + head + b"report\n" + report + f"status {status}\n".encode()
     return text
@@ -326,6 +351,7 @@ def main():
                                                 no_start, other_fields, fullest, tiny_records)}
     cases |= broken()
     cases |= {"empty": Case().end(), "long_run": (b"".join(record(OUTER_MARK, outer) for outer in long_run()), None, None)}
+    cases |= {"wrapped": wrapped(), "wrapped_gap": wrapped_gap()}
     (CRATES / "unwrap_samples/data").mkdir(parents=True, exist_ok=True)
     (CRATES / "unwrap").mkdir(exist_ok=True)
     counts, output = collections.Counter(), b""

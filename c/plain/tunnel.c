@@ -6,6 +6,7 @@ enum {
     FIRST = 0x80,    /* the first byte: version 2, no padding, extension or CSRC */
     MARKER = 0x80,   /* in the second */
     STLTP = 97,      /* the payload type, the rest of it */
+    VERSION = 0x40,  /* the ninth: protocol_version 1, no redundancy, one channel */
     LENGTH_IN = 4,   /* a packet's length is known from that many bytes on */
     STORED_HEAD = 4  /* of a stored packet: IP and its length */
 };
@@ -13,6 +14,12 @@ enum {
 static unsigned two(const uint8_t *at)
 {
     return (unsigned)at[0] << 8 | at[1];
+}
+
+static void put_two(uint8_t *to, unsigned value)
+{
+    to[0] = (uint8_t)(value >> 8);
+    to[1] = (uint8_t)value;
 }
 
 static int is_outer(const uint8_t *outer, size_t n)
@@ -68,8 +75,7 @@ static uint8_t *put_head(uint8_t *to, size_t length)
 {
     to[0] = 'I';
     to[1] = 'P';
-    to[2] = (uint8_t)(length >> 8);
-    to[3] = (uint8_t)length;
+    put_two(to + 2, (unsigned)length);
     return to + STORED_HEAD;
 }
 
@@ -183,4 +189,124 @@ int plain_next_packet(const uint8_t *store, size_t n, size_t at, size_t *length)
         return 15;
     *length = own;
     return 0;
+}
+
+/* ---- The writer ---- */
+
+void plain_wrapper(struct plain_wrapper *w, size_t size, unsigned first)
+{
+    memset(w, 0, sizeof *w);
+    w->size = size;
+    w->next = first;
+}
+
+static int is_size(size_t size)
+{
+    return size >= PLAIN_SIZE_LEAST && size <= PLAIN_SIZE_MOST;
+}
+
+/* The total length is the number of bytes, so that the limits of the one are those of the other. */
+static int may_be_carried(const uint8_t *packet, size_t n)
+{
+    return within_limits(n) && begins_packet(packet) && two(packet + 2) == n;
+}
+
+static size_t left_over(const struct plain_wrapper *w)
+{
+    return w->left < w->size ? w->left : 0;
+}
+
+/* An outer packet's header; the marker is MARKER, or 0 and the offset too. Answers where the payload goes. */
+static uint8_t *put_outer(uint8_t *to, unsigned marker, unsigned sequence, uint32_t timestamp, size_t offset)
+{
+    to[0] = FIRST;
+    to[1] = (uint8_t)(marker | STLTP);
+    put_two(to + 2, sequence);
+    put_two(to + 4, (unsigned)(timestamp >> 16));
+    put_two(to + 6, (unsigned)timestamp);
+    to[8] = VERSION;
+    to[9] = 0;
+    put_two(to + 10, (unsigned)offset);
+    return to + PLAIN_HEADER_RTP;
+}
+
+/* The payload is not full yet. */
+static void keep_waiting(struct plain_wrapper *w, size_t left, const uint8_t *packet, size_t n, uint32_t timestamp)
+{
+    if (w->begin > left)
+        w->begin = left;
+    if (left == 0)
+        w->timestamp = timestamp;
+    memcpy(w->bytes + left, packet, n);
+    w->left = left + n;
+}
+
+/* The first payload has what is left, and the packet begins in it; the others have nothing but this packet. */
+static void put_payloads(struct plain_wrapper *w, size_t left, size_t payloads, const uint8_t *packet, const uint8_t *end,
+                         uint32_t timestamp, uint8_t *to)
+{
+    const size_t size = w->size;
+    unsigned sequence = w->next;
+
+    to = put_outer(to, MARKER, sequence++, left > 0 ? w->timestamp : timestamp, w->begin < left ? w->begin : left);
+    memcpy(to, w->bytes, left);
+    memcpy(to + left, packet, size - left);
+    packet += size - left;
+    while (--payloads > 0) {
+        to = put_outer(to + size, 0, sequence++, timestamp, 0);
+        memcpy(to, packet, size);
+        packet += size;
+    }
+    w->next = sequence & 0xFFFF;
+    w->left = w->begin = (size_t)(end - packet);
+    w->timestamp = timestamp;
+    memcpy(w->bytes, packet, w->left);
+}
+
+struct plain_wrapped plain_wrap(struct plain_wrapper *w, const uint8_t *packet, size_t n, uint32_t timestamp, uint8_t *out, size_t room)
+{
+    struct plain_wrapped answer = {0, 0};
+    size_t left, payloads, wrote;
+
+    if (!is_size(w->size))
+        answer.number = 18;
+    else if (!may_be_carried(packet, n))
+        answer.number = 19;
+    if (answer.number != 0)
+        return answer;
+    left = left_over(w);
+    if (left + n < w->size) {
+        keep_waiting(w, left, packet, n, timestamp);
+        return answer;
+    }
+    payloads = (unsigned)(left + n) / (unsigned)w->size;
+    wrote = payloads * (PLAIN_HEADER_RTP + w->size);
+    if (room < wrote) {
+        answer.number = 1;
+        return answer;
+    }
+    put_payloads(w, left, payloads, packet, packet + n, timestamp, out);
+    answer.wrote = wrote;
+    return answer;
+}
+
+struct plain_wrapped plain_close(struct plain_wrapper *w, uint8_t *out, size_t room)
+{
+    struct plain_wrapped answer = {0, 0};
+    const size_t left = left_over(w);
+    const int begins = w->begin < left;
+
+    if (!is_size(w->size))
+        answer.number = 18;
+    else if (left > 0 && room < PLAIN_HEADER_RTP + left)
+        answer.number = 1;
+    if (answer.number != 0)
+        return answer;
+    if (left > 0) {
+        memcpy(put_outer(out, begins ? MARKER : 0, w->next, w->timestamp, begins ? w->begin : 0), w->bytes, left);
+        w->next = (w->next + 1) & 0xFFFF;
+        answer.wrote = PLAIN_HEADER_RTP + left;
+    }
+    w->left = w->begin = 0;
+    return answer;
 }

@@ -8,17 +8,16 @@ use native.Mathlib.Nat.{sub-zero}
 use native.Mathlib.Numerals.{add-one}
 use native.Mathlib.Omega.{arith}
 use lib.Dec.{T}
-use Rattle.octets.specs.Bits.{Bytes as AllBytes}
 use Rattle.octets.specs.Checks.{among}
-use Rattle.octets.proofs.Laws.{bytes-take, bytes-drop}
 use lib.ListN.{length, getD, take, drop, set, length-drop, take-append-drop, drop-of-length-le}
-use lib.Seq.{take-suc, take-suc-set, take-take, take-add, take-all, take-at, drop-at, length-take-le, length-slice, drop-set-lt, drop-drop, getD-drop, length-sets, sets-eq}
+use lib.Seq.{take-suc, take-suc-set, take-take, take-all, take-at, length-take-le, length-slice, drop-set-lt, drop-drop, getD-drop, length-sets, sets-eq}
 use Rattle.text.specs.Text.{Put}
 use Rattle.records.specs.declared.Entry.{Entry}
 use Rattle.records.specs.declared.Entry.the-variants.{End, Whole, Unknown, Cut}
 use Rattle.records.specs.Records.{Forms, entryIn, isWhole, endNumber, lastLine, longestLast, Record}
 use Rattle.records.specs.Transcripts.{Program, filled}
 use Rattle.records.proofs.Entries.{Within, entry-short, length-last}
+use Rattle.records.proofs.Counted.{drop-take}
 use Rattle.records.proofs.Transcripts.{filled-read, filled-keeps, Fits, filled-room}
 use Rattle.manners.specs.declared.Came.{Came}
 use Rattle.manners.specs.declared.Came.the-variants.{Bytes}
@@ -73,9 +72,7 @@ module _ (block : List ℕ) (at have : ℕ) (ahead : at ≤ have) (inside : have
   pub unread-front : drop at (take have block) ≡ unread block at have
   unread-front =
       let e : have ≡ at + (have - at) = omega arith in
-      ap (λ (n : ℕ). drop at (take n block)) e
-      ∙ ap (drop at) (take-add at (have - at) block)
-      ∙ drop-at (take at block) (unread block at have) at (length-take-le at block (omega arith))
+      ap (λ (n : ℕ). drop at (take n block)) e ∙ drop-take at (have - at) block
 
   pub unread-length : length (unread block at have) ≡ have - at
   unread-length =
@@ -130,10 +127,9 @@ module _ (forms : Forms) (old : List ℕ) (at have : ℕ) (ahead : at ≤ have) 
   follows new u = subst (λ (k : Entry). Advances k old at have new u) stands-unread
 
   -- an entry that needs more is shorter than the longest record: there is room for a byte
-  pub room-for-more : (longest : ℕ) → Within longest forms → AllBytes old → longest ≤ length old → (e ≡ End) ⊎ (e ≡ Cut) → have - at < length old
-  room-for-more longest within all long short =
-      let bytes : AllBytes (unread old at have) = bytes-take (have - at) (drop at old) (bytes-drop at old all) in
-      omega (arith, entry-short forms longest within (unread old at have) bytes e stands-unread short, unread-length old at have ahead inside)
+  pub room-for-more : (longest : ℕ) → Within longest forms → longest ≤ length old → (e ≡ End) ⊎ (e ≡ Cut) → have - at < length old
+  room-for-more longest within long short =
+      omega (arith, entry-short forms longest within (unread old at have) e stands-unread short, unread-length old at have ahead inside)
 
 -- the input is at its end, or could not be read
 abbrev pub noMore : Step → Bool

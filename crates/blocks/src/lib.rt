@@ -131,14 +131,14 @@ pub fn stops(step: Step) -> bool
     }
 }
 
-// Ends a run at a step, where this entry stands: what comes last is written, if no more can come.
-pub fn conclude(step: Step, entry: Entry, last: &[u8], to: i32) -> Ending
+// Ends a run at a step, where this entry stands: what comes last is written, and the last of the report, if no more can come.
+pub fn conclude(step: Step, entry: Entry, last: &[u8], to: i32, report: &[u8], aside: i32) -> Ending
     ensures { λ r. ⌜ Concludes step entry r ⌝ }
 {
     match step {
         Step::Next => Ending::Spent,
         Step::Last => {
-            let sent = manners::write_out(to, last);
+            let sent = manners::write_both(to, last, aside, report);
             manners::ended(sent, records::end_number(entry))
         }
         Step::NotRead => Ending::NotRead,
@@ -153,5 +153,5 @@ pub fn settle(step: Step, entry: Entry, out: &mut [u8], to: i32) -> Ending
     ensures { λ r. ⌜ Settles step entry (now (out .exit)) r ⌝ }
 {
     let n = records::put_last(entry, out);
-    conclude(step, entry, &out[..n], to)
+    conclude(step, entry, &out[..n], to, b"", to)
 }

@@ -1,56 +1,24 @@
 -- An outer packet that is sent, as the reader sees it: its fields and its payload are those that the sender put in. Assumes nothing.
-use mathlib.Core.Path.{_≡_, refl, ap, ap₂, _∙_}
-use mathlib.Core.Bool.{Bool, true, false, cond}
+use mathlib.Core.Path.{_≡_, refl}
+use mathlib.Core.Bool.{Bool, true, false}
 use mathlib.Core.List.{List, [], _∷_, _++_, flatMap}
-use Prim.Native.Nat.{ℕ, zero, suc, _+_, _*_, _/_, _%_, _≤_, _<_}
-use native.Mathlib.Nat.{zero-add, suc-add}
+use Prim.Native.Nat.{ℕ, _+_, _/_, _%_, _≤_}
 use native.Mathlib.Omega.{arith}
 use borrow.Author.Tests.{ltb-true, le-ltb}
 use lib.Dec.{eqb}
-use lib.ListN.{length, getD, take, drop, length-append, length-take, length-drop}
-use lib.Seq.{take-append-le, drop-append-le}
-use Rattle.octets.specs.Bits.{Field, field, laid, number, octets, bytesOf, run, InWidth, Held, Bytes}
+use lib.ListN.{length, getD, take, drop, length-take}
+use Rattle.octets.specs.Bits.{Field, field, laid, octets, run, InWidth, Held, Bytes}
 use Rattle.octets.specs.Each.{Each}
 use Rattle.octets.specs.Word.{wordBytes}
-use Rattle.octets.proofs.Laws.{either, each-append, word-high-low, width, length-laid, laid-append, bytes-take, bytes-drop, bytes-append, Makes, bytes-made, makes-append, makes-byte, makes-word, makes-run}
+use Rattle.octets.proofs.Laws.{either, each-append, word-high-low, bytes-take, bytes-drop, bytes-append, bytes-made, makes-append, makes-byte, makes-word, makes-bytes, makes-run}
 use Rattle.rtp.specs.Header.{headerBytes, sequences, headFields, markerIn, sequenceIn, payloadIn}
 use Rattle.rtp.proofs.Laws.{plain-bytes}
 use Rattle.packets.specs.Stored.{line}
 use Rattle.tunnel.specs.Outer.{stltp, longestOuter, Outer, outerFields, outerPacket, offsetIn, isOuter}
+use Rattle.tunnel.proofs.Outers.{kindByte, marker-bit}
 use Rattle.carriage.specs.Sent.{Sendable, Choice, Fits, nextBegin, begins, outerAt}
 
--- ---- fields that fill some bytes, whatever stands in them
-
--- the bytes of some bits, and of those behind them
-octets-append : (n m : ℕ) (s t : List ℕ) → length s ≡ n * 8 → octets (n + m) (s ++ t) ≡ octets n s ++ octets m t
-unfolding octets
-octets-append zero m [] t e = ap (λ (k : ℕ). octets k t) (zero-add m)
-octets-append zero m (b ∷ s) t e = absurd (omega arith)
-octets-append (suc n) m s t e =
-    let eight : 8 ≤ length s = omega arith in
-    ap (λ (k : ℕ). octets k (s ++ t)) (suc-add n m)
-    ∙ ap₂ (λ (a b : List ℕ). number a ∷ octets (n + m) b) (take-append-le 8 s t eight) (drop-append-le 8 s t eight)
-    ∙ ap (λ (k : List ℕ). number (take 8 s) ∷ k) (octets-append n m (drop 8 s) t (omega (arith, length-drop 8 s)))
-
-makes-bytes : (n : ℕ) (gs : List Field) → width gs ≡ n * 8 → Makes gs (octets n (laid gs))
-unfolding bytesOf
-makes-bytes n gs e =
-    record {
-      made = λ h fs.
-          let count : length (laid gs ++ laid fs) / 8 ≡ n + length (laid fs) / 8 = omega (arith, length-append (laid gs) (laid fs), length-laid gs) in
-          ap (λ (t : List ℕ). octets (length t / 8) t) (laid-append gs fs)
-          ∙ ap (λ (k : ℕ). octets k (laid gs ++ laid fs)) count
-          ∙ octets-append n (length (laid fs) / 8) (laid gs) (laid fs) (length-laid gs ∙ e);
-    }
-
 -- ---- the byte of the marker and the payload_type
-
-abbrev kindByte : Bool → ℕ
-kindByte t = cond t 1 0 * 128 + stltp
-
-marker-bit : (t : Bool) → cond t 1 0 < 2
-marker-bit true = omega arith
-marker-bit false = omega arith
 
 marker-read : (t : Bool) → eqb (kindByte t / 128) 1 ≡ t
 marker-read true = refl

@@ -4,7 +4,7 @@ use mathlib.Core.Bool.{true, false, cond}
 use mathlib.Core.List.{List, [], _∷_, _++_, map, flatMap, append-assoc, nil≢cons, head-eq-of-cons-eq, tail-eq-of-cons-eq}
 use Prim.Native.Nat.{ℕ, zero, suc, _+_, _-_, _≤_}
 use native.Mathlib.Omega.{arith}
-use borrow.Author.Tests.{ne-eqb, le-ltb}
+use borrow.Author.Tests.{ne-eqb}
 use lib.Dec.{eqb, eqb·suc-zero}
 use lib.ListN.{length, take, drop, length-append}
 use lib.Seq.{take-at, drop-at}
@@ -15,7 +15,7 @@ use Rattle.text.specs.Text.{text, decimalIn, decimal}
 use Rattle.records.specs.declared.Form.the-variants.{Fixed}
 use Rattle.records.specs.declared.Entry.the-variants.{End, Whole}
 use Rattle.records.specs.Records.{markBytes, markIn, markOf, entryIn, isWhole, sizeOf, Record, recordIn, File, fileIn, lastLine}
-use Rattle.records.proofs.Entries.{shape-entry}
+use Rattle.records.proofs.Entries.{mark-first, shape-entry}
 use Rattle.records.proofs.Transcripts.{file-record, file-none}
 use Rattle.meaning.specs.declared.Kind.{Kind}
 use Rattle.meaning.specs.Sizes.{longestChunk, longestListing}
@@ -54,8 +54,7 @@ module _ (xs rest : List ℕ) (whole : length xs ≡ segmentBytes) where
   size-logged = omega (arith, length-append xs rest)
 
   mark-logged : markIn log ≡ markOf "SG"
-  unfolding markIn
-  mark-logged = let two : markBytes ≤ length log = omega (arith, size-logged) in simp (le-ltb _ _ two)
+  mark-logged = mark-first _ _ (xs ++ rest)
 
   entry-logged : entryIn logForm log ≡ Whole (markBytes + segmentBytes)
   entry-logged =

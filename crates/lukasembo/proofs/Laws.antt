@@ -1,12 +1,11 @@
 -- The answers of the two calls: how great their parts are, and that the one number tells each of them. Assumes nothing.
 use mathlib.Core.Path.{_≡_, refl, ap, ap₂, subst, _∙_}
-use mathlib.Core.Bool.{cond, and-eq-true-iff}
+use mathlib.Core.Bool.{cond}
 use mathlib.Core.Logic.{⊎-elim}
 use mathlib.Core.List.{List}
-use Prim.Native.Nat.{ℕ, _-_, _/_, _%_, _≤_, _<_}
+use Prim.Native.Nat.{ℕ, _/_, _%_, _≤_, _<_}
 use native.Mathlib.Omega.{arith}
-use borrow.Author.Tests.{leb-true}
-use lib.Dec.{ltb, leb, lit<, lit≤}
+use lib.Dec.{ltb, lit<, lit≤}
 use lib.ListN.{length}
 use Rattle.octets.specs.Bits.{Bytes}
 use Rattle.octets.proofs.Laws.{either}
@@ -33,14 +32,6 @@ use Rattle.writer.specs.declared.Written.the-variants.{Segments, Refused}
 use Rattle.writer.specs.Writing.{unwrittenNumber, writtenValues, writeAnswer}
 use Rattle.writer.proofs.Answers.{segments-says}
 use Rattle.writer.proofs.Outputs.{length-plainSegments}
-use Rattle.records.specs.declared.Entry.{Entry}
-use Rattle.records.specs.declared.Entry.the-variants.{Unknown, Cut}
-use Rattle.records.specs.declared.Entry.the-variants.{End as EntryEnd, Whole as EntryWhole}
-use Rattle.records.specs.Records.{entryIn}
-use Rattle.packets.specs.Packets.{shortestPacket, longestPacket, withinLimits}
-use Rattle.packets.specs.Stored.{storedHeadBytes}
-use Rattle.store.specs.declared.Next.the-variants.{Packet, Broken}
-use Rattle.store.specs.Store.{storeForm, nextBy, nextIn}
 use Rattle.tunnel.specs.declared.Unwrapped.{Unwrapped}
 use Rattle.tunnel.specs.declared.Unwrapped.the-variants.{Stored, Repeat, Foreign, BadOffset}
 use Rattle.tunnel.specs.declared.Unwrapped.the-variants.{ShortOutput as Unwrapped·ShortOutput}
@@ -143,20 +134,3 @@ unwrapped-told r outer output =
     told Unwrapped·ShortOutput h k i = (refl, refl, refl, refl, refl)
     told Foreign h k i = (refl, refl, refl, refl, refl)
     told (BadOffset g l) h k i = (omega arith, omega arith, omega arith, omega arith, omega arith)
-
--- a packet of a store is not too long
-pub packet-short : (xs : List ℕ) (n : ℕ) → nextIn xs ≡ Packet n → n ≤ longestPacket
-unfolding nextIn
-packet-short xs n is = go (entryIn storeForm xs) is
-  where
-    go : (e : Entry) → nextBy e ≡ Packet n → n ≤ longestPacket
-    go EntryEnd e = let z : _≡_ {A = ℕ} 0 1 = cc in absurd (omega arith)
-    go Unknown e = let z : _≡_ {A = ℕ} 0 1 = cc in absurd (omega arith)
-    go Cut e = let z : _≡_ {A = ℕ} 0 1 = cc in absurd (omega arith)
-    go (EntryWhole m) e =
-        either (withinLimits (m - storedHeadBytes))
-        (λ w.
-        let same : Packet (m - storedHeadBytes) ≡ Packet n = rw w at e in
-        let size : m - storedHeadBytes ≡ n = cc in
-        subst (λ (k : ℕ). k ≤ longestPacket) size (leb-true (m - storedHeadBytes) longestPacket (and-eq-true-iff (leb shortestPacket (m - storedHeadBytes)) (leb (m - storedHeadBytes) longestPacket) .0 w .1)))
-        (λ w. let none : Broken ≡ Packet n = rw w at e in let z : _≡_ {A = ℕ} 0 1 = cc in absurd (omega arith))

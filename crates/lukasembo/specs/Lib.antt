@@ -1,2 +1,3 @@
 pub mod Packed
 pub mod Steps
+pub mod Wraps

@@ -1,4 +1,4 @@
-// The reader, the writer and the tunnel's reader for programs in C: thin over the proved calls. include/lukasembo.h declares them.
+// The reader, the writer and the tunnel's two for programs in C: thin over the proved calls. include/lukasembo.h declares them.
 use meaning::Read;
 use store::Next;
 use tunnel::Numbers;
@@ -15,8 +15,10 @@ ghost use Rattle.writer.specs.Writing.{writtenValues, writeAnswer, writeOutput}
 ghost use lib.ListN.{drop};
 ghost use Rattle.store.specs.Store.{nextIn};
 ghost use Rattle.tunnel.specs.Unwrap.{unwrappedValues};
+ghost use Rattle.wrapper.specs.Wrap.{wrappedValues};
 ghost use Rattle.lukasembo.specs.Packed.{packedRead, packedWritten};
 ghost use Rattle.lukasembo.specs.Steps.{packedUnwrapped, numbersIn, packedNumbers, numbersLeft, packedNext, StepSays};
+ghost use Rattle.lukasembo.specs.Wraps.{packedWrapped, writerIn, packedWriter, WrapStepSays, CloseStepSays};
 
 // The reader's answer as one number.
 fn pack_read(answer: Read) -> u64
@@ -72,7 +74,7 @@ pub extern "C" fn lukasembo_write(listing: &[u8], current: u8, output: &mut [u8]
 
 // ---- the tunnel
 
-// After an outer packet: the answer, and the numbers that the caller keeps.
+// After a call: the answer, and the numbers that the caller keeps.
 #[repr(C)]
 pub struct Step {
     pub answer: u64,
@@ -167,4 +169,83 @@ pub extern "C" fn lukasembo_next_packet(store: &[u8], at: usize) -> u64
         Next::Packet(n) => n as u64 * 0x10000,
         Next::Broken => 15,
     }
+}
+
+// ---- the tunnel's writer
+
+// The writer's numbers, as the caller keeps them.
+fn unpack_writer(packed: u64, since: u32) -> wrapper::Numbers
+    ensures { λ r. ⌜ r ≡ writerIn packed since ⌝ }
+{
+    wrapper::Numbers {
+        size: (packed % 0x10000) as usize,
+        next: (packed / 0x10000 % 0x10000) as u16,
+        left: (packed / 0x100000000 % 0x10000) as usize,
+        begin: (packed / 0x1000000000000) as usize,
+        timestamp: since,
+    }
+}
+
+fn pack_writer(numbers: wrapper::Numbers) -> u64
+    requires { ⌜ (numbers .size < 65536) × (numbers .left < 65536) × (numbers .begin < 65536) ⌝ }
+    ensures { λ r. ⌜ r ≡ packedWriter numbers ⌝ }
+{
+    let low = numbers.size as u64 + numbers.next as u64 * 0x10000;
+    low + numbers.left as u64 * 0x100000000 + numbers.begin as u64 * 0x1000000000000
+}
+
+// Its answer, and the timestamp of the first byte that is left, as one number.
+fn pack_wrapped(values: wrapper::Values, timestamp: u32) -> u64
+    requires { ⌜ values .wrote < 65536 ⌝ }
+    ensures { λ r. ⌜ r ≡ packedWrapped values timestamp ⌝ }
+{
+    values.number as u64 + values.wrote as u64 * 0x10000 + timestamp as u64 * 0x100000000
+}
+
+// What a call gave, as the caller gets it.
+fn pack_given(answer: wrapper::Wrapped, numbers: wrapper::Numbers) -> Step
+    requires { ⌜ (wrappedValues answer .wrote < 65536) × (numbers .size < 65536) × (numbers .left < 65536) × (numbers .begin < 65536) ⌝ }
+    ensures { λ r. ⌜ (r .answer ≡ packedWrapped (wrappedValues answer) (numbers .timestamp)) × (r .numbers ≡ packedWriter numbers) ⌝ }
+{
+    let v = wrapper::values_of(answer);
+    Step {
+        answer: pack_wrapped(v, numbers.timestamp),
+        numbers: pack_writer(numbers),
+    }
+}
+
+// Writes a packet: the outer packets that it fills go to the start of the output.
+#[no_mangle]
+pub extern "C" fn lukasembo_wrap_step(
+    numbers: u64,
+    since: u32,
+    left: &mut [u8; 1400],
+    packet: &[u8],
+    timestamp: u32,
+    output: &mut [u8],
+) -> Step
+    ensures { λ r. ⌜ WrapStepSays numbers since (now (left .entry)) (now (packet .entry)) timestamp (now (output .entry)) (r .answer) (r .numbers) (now (left .exit)) (now (output .exit)) ⌝ }
+{
+    let m = unpack_writer(numbers, since);
+    let given = wrapper::wrap(m, left, packet, timestamp, output);
+    let answer = given.answer;
+    let after = given.numbers;
+    pack_given(answer, after)
+}
+
+// Closes: what is left, if anything, goes to the start of the output.
+#[no_mangle]
+pub extern "C" fn lukasembo_close_step(
+    numbers: u64,
+    since: u32,
+    left: &[u8; 1400],
+    output: &mut [u8],
+) -> Step
+    ensures { λ r. ⌜ CloseStepSays numbers since (now (left .entry)) (now (output .entry)) (r .answer) (r .numbers) (now (output .exit)) ⌝ }
+{
+    let m = unpack_writer(numbers, since);
+    let given = wrapper::close(m, left, output);
+    let answer = given.answer;
+    let after = given.numbers;
+    pack_given(answer, after)
 }

@@ -135,6 +135,15 @@ pub fn write_out(to: i32, bytes: &[u8]) -> Sent {
     unsent(os::errno())
 }
 
+// Writes what a program puts out, and then its report to another descriptor.
+pub fn write_both(to: i32, output: &[u8], aside: i32, report: &[u8]) -> Sent {
+    match write_out(to, output) {
+        Sent::All => write_out(aside, report),
+        Sent::Gone => Sent::Gone,
+        Sent::Failed => Sent::Failed,
+    }
+}
+
 // How a program ends with this number, once its last bytes were written or could not be.
 pub fn ended(sent: Sent, number: u8) -> Ending
     ensures { λ r. ⌜ r ≡ endedBy sent number ⌝ }
@@ -148,14 +157,33 @@ pub fn ended(sent: Sent, number: u8) -> Ending
 
 // ---- words, and the end
 
-// Whether the program was started with words, which it does not take. They are refused with a line that says how it is used.
+// Whether the program was started with words, which it does not take and are refused.
 pub fn has_words(usage: &[u8]) -> bool {
     if os::arg_count() < 2 {
         return false;
     }
+    refuse_words(usage);
+    true
+}
+
+// Refuses words that the program does not take, with a line that says how it is used.
+pub fn refuse_words(usage: &[u8]) {
     io::write_all(STDERR_FILENO, usage);
     say_status(MISUSED);
-    true
+}
+
+// Refuses what the program was given, with a number, which is its status.
+pub fn refuse(name: &[u8], number: u8) {
+    tell_refused(STDERR_FILENO, name, number);
+    say_status(number);
+}
+
+// A line on a descriptor: the program's name, and the number that it refused with.
+pub fn tell_refused(to: i32, name: &[u8], number: u8) {
+    io::write_all(to, name);
+    io::write_all(to, b": refused with ");
+    io::print_decimal(to, number as u64);
+    io::write_all(to, b"\n");
 }
 
 // Says how the work of a program ended: a failure on standard error, and the status.

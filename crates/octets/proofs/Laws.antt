@@ -3,13 +3,13 @@ use mathlib.Core.Path.{_≡_, refl, sym, ap, ap₂, _∙_}
 use mathlib.Core.Bool.{Bool, true, false, and-eq-true-iff}
 use mathlib.Core.List.{List, [], _∷_, _++_, map, flatMap, append-assoc, append-nil}
 use Prim.Native.Nat.{ℕ, zero, suc, _+_, _*_, _/_, _%_, _^_, _≤_, _<_}
-use native.Mathlib.Nat.{mod-eq-of-lt, mod-one, add-zero, zero-add, suc-add, add-comm, mul-le-mul-right, lt-of-lt-of-le, pow-suc}
+use native.Mathlib.Nat.{mod-eq-of-lt, mod-one, add-zero, zero-add, suc-add, add-comm, add-assoc, mul-le-mul-right, lt-of-lt-of-le, pow-suc}
 use native.Mathlib.Numerals.{one-add}
 use native.Mathlib.Omega.{arith}
 use borrow.Author.Tests.{eq-eqb, eqb-true}
 use lib.Dec.{eqb}
-use lib.ListN.{length, getD, take, drop, length-append, length-take}
-use lib.Seq.{take-at, drop-at, getD-drop}
+use lib.ListN.{length, getD, take, drop, length-append, length-take, length-drop}
+use lib.Seq.{take-append-le, drop-append-le, take-at, drop-at, getD-drop}
 use lib.Pow.{pow-mono, pow-add, mod-pow-add, shr-shr}
 use Rattle.octets.specs.Bits.{Field, field, bits, laid, number, octets, bytesOf, InWidth, Held, run, Bytes}
 use Rattle.octets.specs.Checks.{check}
@@ -222,17 +222,54 @@ pub makes-octet : (x : ℕ) → Makes (field 8 x ∷ []) (x ∷ [])
 makes-octet x =
     record { made = λ h fs. makes-byte (field 8 x ∷ []) refl .made h fs ∙ ap (λ (k : ℕ). k ∷ bytesOf fs) (omega arith) }
 
--- a two-byte number
+-- the bits of a two-byte number, whatever it is cut from
+octets-word : (v : ℕ) (t : List ℕ) → octets (length (bits 16 v ++ t) / 8) (bits 16 v ++ t) ≡ v / 256 % 256 ∷ v % 256 ∷ octets (length t / 8) t
+octets-word v t =
+    ap (λ (s : List ℕ). octets (length s / 8) s)
+    (ap (λ (s : List ℕ). s ++ t) (bits-split 8 8 v) ∙ append-assoc (bits 8 (v / 256)) (bits 8 v) t)
+    ∙ octets-cons (bits 8 (v / 256)) (bits 8 v ++ t) (length-bits 8 (v / 256))
+    ∙ ap₂ _∷_ (number-bits 8 (v / 256))
+    (octets-cons (bits 8 v) t (length-bits 8 v) ∙ ap (λ (k : ℕ). k ∷ octets (length t / 8) t) (number-bits 8 v))
+
+-- a two-byte number, and one of four bytes
 pub makes-word : (v : ℕ) → Makes (field 16 v ∷ []) (wordBytes v)
 unfolding bytesOf laid
-makes-word v =
+makes-word v = record { made = λ h fs. octets-word v (laid fs) ∙ ap (λ (k : ℕ). k ∷ low v ∷ bytesOf fs) (omega (arith, h .0)) }
+
+pub makes-long : (v : ℕ) → Makes (field 32 v ∷ []) (wordBytes (v / 65536) ++ wordBytes (v % 65536))
+unfolding bytesOf laid
+makes-long v =
     record {
       made = λ h fs.
+          let third : v / 256 % 256 ≡ high (v % 65536) = omega arith in
+          let fourth : v % 256 ≡ low (v % 65536) = omega arith in
           ap (λ (s : List ℕ). octets (length s / 8) s)
-          (ap (λ (s : List ℕ). s ++ laid fs) (bits-split 8 8 v) ∙ append-assoc (bits 8 (v / 256)) (bits 8 v) (laid fs))
-          ∙ octets-cons (bits 8 (v / 256)) (bits 8 v ++ laid fs) (length-bits 8 (v / 256))
-          ∙ ap₂ _∷_ (number-bits 8 (v / 256) ∙ omega (arith, h .0))
-          (octets-cons (bits 8 v) (laid fs) (length-bits 8 v) ∙ ap (λ (k : ℕ). k ∷ bytesOf fs) (number-bits 8 v));
+          (ap (λ (s : List ℕ). s ++ laid fs) (bits-split 16 16 v) ∙ append-assoc (bits 16 (v / 65536)) (bits 16 v) (laid fs))
+          ∙ octets-word (v / 65536) (bits 16 v ++ laid fs)
+          ∙ ap₂ (λ (k : ℕ) (t : List ℕ). k ∷ low (v / 65536) ∷ t) (omega (arith, h .0)) (octets-word v (laid fs))
+          ∙ ap₂ (λ (j k : ℕ). high (v / 65536) ∷ low (v / 65536) ∷ j ∷ k ∷ bytesOf fs) third fourth;
+    }
+
+-- fields that fill some bytes, whatever stands in them
+octets-append : (n m : ℕ) (s t : List ℕ) → length s ≡ n * 8 → octets (n + m) (s ++ t) ≡ octets n s ++ octets m t
+unfolding octets
+octets-append zero m [] t e = ap (λ (k : ℕ). octets k t) (zero-add m)
+octets-append zero m (b ∷ s) t e = absurd (omega arith)
+octets-append (suc n) m s t e =
+    let eight : 8 ≤ length s = omega arith in
+    ap (λ (k : ℕ). octets k (s ++ t)) (suc-add n m)
+    ∙ ap₂ (λ (a b : List ℕ). number a ∷ octets (n + m) b) (take-append-le 8 s t eight) (drop-append-le 8 s t eight)
+    ∙ ap (λ (k : List ℕ). number (take 8 s) ∷ k) (octets-append n m (drop 8 s) t (omega (arith, length-drop 8 s)))
+
+pub makes-bytes : (n : ℕ) (gs : List Field) → width gs ≡ n * 8 → Makes gs (octets n (laid gs))
+unfolding bytesOf
+makes-bytes n gs e =
+    record {
+      made = λ h fs.
+          let count : length (laid gs ++ laid fs) / 8 ≡ n + length (laid fs) / 8 = omega (arith, length-append (laid gs) (laid fs), length-laid gs) in
+          ap (λ (t : List ℕ). octets (length t / 8) t) (laid-append gs fs)
+          ∙ ap (λ (k : ℕ). octets k (laid gs ++ laid fs)) count
+          ∙ octets-append n (length (laid fs) / 8) (laid gs) (laid fs) (length-laid gs ∙ e);
     }
 
 -- a run of bytes, and a run of rows
@@ -253,6 +290,25 @@ held-rows fields f g one (a ∷ rs) h =
     each-append InWidth (fields (f (g a))) (flatMap fields (map f (map g rs)))
     (one a (each-left InWidth (fields a) (flatMap fields rs) h))
     (held-rows fields f g one rs (each-right InWidth (fields a) (flatMap fields rs) h))
+
+-- ---- how many bytes fields make
+
+pub length-octets : (n : ℕ) (bs : List ℕ) → length (octets n bs) ≡ n
+unfolding octets
+length-octets zero bs = refl
+length-octets (suc n) bs = ap suc (length-octets n (drop 8 bs))
+
+pub length-bytesOf : (fs : List Field) → length (bytesOf fs) ≡ width fs / 8
+unfolding bytesOf
+length-bytesOf fs = length-octets (length (laid fs) / 8) (laid fs) ∙ ap (λ (n : ℕ). n / 8) (length-laid fs)
+
+pub width-append : (gs fs : List Field) → width (gs ++ fs) ≡ width gs + width fs
+width-append [] fs = sym (zero-add (width fs))
+width-append (field w v ∷ gs) fs = ap (λ (n : ℕ). w + n) (width-append gs fs) ∙ sym (add-assoc w (width gs) (width fs))
+
+pub width-run : (xs : List ℕ) → width (run xs) ≡ length xs * 8
+width-run [] = refl
+width-run (x ∷ xs) = ap (λ (n : ℕ). 8 + n) (width-run xs) ∙ omega arith
 
 -- ---- what fields make are bytes: every bit is 0 or 1, and at most eight make a byte
 

@@ -28,6 +28,10 @@ sets-append (v ∷ vs) ws l i =
     sets-append vs ws (set l i v) (suc i)
     ∙ ap (λ (n : ℕ). sets (sets l i (v ∷ vs)) n ws) (suc-add i (length vs) ∙ sym (add-suc i (length vs)))
 
+-- two stores, and a run of them behind
+pub mark-stored : (v w : ℕ) (ws l : List ℕ) (at : ℕ) → sets (set (set l at v) (at + 1) w) (at + 2) ws ≡ sets l at (v ∷ w ∷ ws)
+mark-stored v w ws l at = ap (λ (k : List ℕ). sets k (at + 2) ws) (stored v (w ∷ []) l at) ∙ sym (sets-append (v ∷ w ∷ []) ws l at)
+
 -- it leaves what is before it and what is after it, and stands where it was put
 pub take-sets : (vs l : List ℕ) (i n : ℕ) → n ≤ i → take n (sets l i vs) ≡ take n l
 take-sets [] l i n h = refl

@@ -1,6 +1,9 @@
 // Two-byte numbers, big-endian: the whole project takes them apart and puts them together here.
 ghost use mathlib.Core.Path.{_≡_};
-ghost use Rattle.octets.specs.Word.{word, high, low};
+ghost use Prim.Native.Nat.{_+_, _≤_};
+ghost use lib.ListN.{length};
+ghost use lib.Seq.{sets};
+ghost use Rattle.octets.specs.Word.{word, high, low, wordBytes};
 
 // The number that two bytes say.
 pub fn word_of(first: u8, second: u8) -> u16
@@ -21,4 +24,13 @@ pub fn low_of(w: u16) -> u8
     ensures { λ r. ⌜ r ≡ low w ⌝ }
 {
     (w % 256) as u8
+}
+
+// Puts both bytes at a place.
+pub fn put_word(w: u16, out: &mut [u8], at: usize)
+    requires { ⌜ at + 2 ≤ length (now out) ⌝ }
+    ensures { λ _. ⌜ now (out .exit) ≡ sets (now (out .entry)) at (wordBytes w) ⌝ }
+{
+    out[at] = high_of(w);
+    out[at + 1] = low_of(w);
 }

@@ -1,6 +1,6 @@
 -- What some bytes are as the start of a packet, case by case; and stored packets. Assumes nothing.
 use mathlib.Core.Path.{_≡_, refl, sym, ap, ap₂, subst, _∙_}
-use mathlib.Core.Bool.{true, false, not, cond, and-false}
+use mathlib.Core.Bool.{Bool, true, false, not, cond, true≢false, and-false, and-eq-true-iff}
 use mathlib.Core.List.{List, [], _∷_}
 use mathlib.Core.Logic.{_⊎_, inl, inr}
 use Prim.Native.Nat.{ℕ, zero, suc, _+_, _-_, _≤_, _<_}
@@ -8,20 +8,20 @@ use native.Mathlib.Omega.{arith}
 use borrow.Author.Tests.{eqb-true, eqb-false, ltb-true, ltb-false, leb-true, eq-eqb, ne-eqb, lt-ltb, le-ltb, le-leb, lt-leb}
 use lib.Dec.{eqb, ltb, leb}
 use lib.ListN.{length, getD, set, take, drop, length-drop}
-use lib.Seq.{getD-take, getD-drop, length-take-le, sets}
+use lib.Seq.{getD-take, getD-drop, length-take-le, take-all, sets}
 use Rattle.octets.specs.Checks.{check}
-use Rattle.octets.specs.Word.{word, high, low}
-use Rattle.octets.proofs.Stores.{stored as Stores·stored}
+use Rattle.octets.specs.Word.{word, wordBytes}
+use Rattle.octets.proofs.Stores.{mark-stored}
 use Rattle.octets.proofs.Laws.{either, getD-there}
 use Rattle.packets.specs.declared.Start.{Start}
 use Rattle.packets.specs.declared.Start.the-variants.{Running, Whole, Fault}
-use Rattle.packets.specs.Packets.{shortestPacket, longestPacket, withinLimits, versionOf, ipVersion, totalLength, tellingBytes, Carried, startBy, startOf}
+use Rattle.packets.specs.Packets.{shortestPacket, longestPacket, withinLimits, versionOf, ipVersion, totalLength, tellingBytes, Carried, isCarried, startBy, startOf}
 use Rattle.packets.specs.Stored.{storedHead}
 
 -- ---- the head of a stored packet, as the code stores it
 
-pub head-stored : (l : List ℕ) (at n h k : ℕ) → h ≡ high n → k ≡ low n → set (set (set (set l at 73) (at + 1) 80) (at + 2) h) (at + 3) k ≡ sets l at (storedHead n)
-head-stored l at n h k e f = rw (e, f) (Stores·stored 73 (80 ∷ high n ∷ low n ∷ []) l at)
+pub head-stored : (l : List ℕ) (at n : ℕ) (l′ : List ℕ) → l′ ≡ sets (set (set l at 73) (at + 1) 80) (at + 2) (wordBytes n) → l′ ≡ sets l at (storedHead n)
+head-stored l at n l′ is = is ∙ mark-stored 73 80 (wordBytes n) l at
 
 -- ---- a length within the limits, or not
 
@@ -158,3 +158,45 @@ module _ (xs : List ℕ) where
       positive : (n : ℕ) → (n ≡ 0 → ⊥) → 0 < n
       positive zero z = absurd (z refl)
       positive (suc n) z = omega arith
+
+-- ---- one that may be carried, by the test
+
+module _ (xs : List ℕ) where
+  pub carried-is : Carried xs → isCarried xs ≡ true
+  unfolding isCarried
+  carried-is k =
+      simp (eq-eqb (versionOf (getD xs 0 0)) ipVersion (k .version), within (totalLength xs) (omega (arith, k .least, k .own)) (omega (arith, k .most, k .own)), eq-eqb (totalLength xs) (length xs) (k .own))
+
+  pub is-carried : isCarried xs ≡ true → Carried xs
+  unfolding isCarried
+  is-carried t =
+      let version = and-eq-true-iff (eqb (versionOf (getD xs 0 0)) ipVersion) _ .0 t in
+      let limits = and-eq-true-iff (withinLimits (totalLength xs)) _ .0 (version .1) in
+      let within = and-eq-true-iff (leb shortestPacket (totalLength xs)) _ .0 (limits .0) in
+      let own : totalLength xs ≡ length xs = eqb-true (totalLength xs) (length xs) (limits .1) in
+      record {
+        version = eqb-true (versionOf (getD xs 0 0)) ipVersion (version .0);
+        own = own;
+        least = omega (arith, own, leb-true shortestPacket (totalLength xs) (within .0));
+        most = omega (arith, own, leb-true (totalLength xs) longestPacket (within .1));
+      }
+
+  -- and by what stands there
+  abbrev pub isWhole : Start → ℕ → Bool
+  isWhole (Whole n) m = eqb n m
+  isWhole Running m = false
+  isWhole Fault m = false
+
+  pub whole-is : (s : Start) → startOf xs ≡ s → isWhole s (length xs) ≡ isCarried xs
+  whole-is s e =
+      either (isCarried xs) (λ t. ap (λ (r : Start). isWhole r (length xs)) (sym e ∙ carried-whole xs (is-carried t)) ∙ eq-eqb (length xs) (length xs) refl ∙ sym t)
+      (λ t. rest s e t ∙ sym t)
+    where
+      rest : (s : Start) → startOf xs ≡ s → isCarried xs ≡ false → isWhole s (length xs) ≡ false
+      rest Running e t = refl
+      rest Fault e t = refl
+      rest (Whole n) e t =
+          ne-eqb n (length xs)
+          (λ same.
+          let all : take n xs ≡ xs = take-all n xs (omega (arith, same)) in
+          true≢false (sym (carried-is (subst Carried all (whole-carried xs n e))) ∙ t))

@@ -44,6 +44,13 @@ pub record Carried (xs : List ℕ) : Type 0 where
   pub least : shortestPacket ≤ length xs
   pub most : length xs ≤ longestPacket
 
+-- the same as one test; fewer than four bytes tell no such length
+unfoldable pub isCarried : List ℕ → Bool
+isCarried xs =
+    eqb (versionOf (getD xs 0 0)) ipVersion
+    && (withinLimits (totalLength xs)
+    && eqb (totalLength xs) (length xs))
+
 -- ---- what some bytes are, as the start of a packet: one that is running, so far right; a whole one of so many bytes, others behind it; or none
 
 -- of n bytes, by the first of them and the total length

@@ -3,7 +3,7 @@ ghost use mathlib.Core.Path.{_≡_};
 ghost use Prim.Native.Nat.{_+_, _≤_};
 ghost use lib.ListN.{length, drop};
 ghost use lib.Seq.{sets};
-ghost use Rattle.packets.specs.Packets.{longestPacket, startBy, startOf};
+ghost use Rattle.packets.specs.Packets.{longestPacket, isCarried, startBy, startOf};
 ghost use Rattle.packets.specs.Stored.{storedHead, storedHeadBytes};
 
 // What some bytes are, as the start of a packet.
@@ -67,6 +67,17 @@ pub fn start_at(bytes: &[u8], at: usize) -> Start
     start_by(n, bytes[at], total)
 }
 
+// Whether some bytes are a packet that may be carried.
+pub fn is_carried(packet: &[u8]) -> bool
+    ensures { λ r. ⌜ r ≡ isCarried (now (packet .entry)) ⌝ }
+{
+    match start_at(packet, 0) {
+        Start::Whole(n) => n == packet.len(),
+        Start::Running => false,
+        Start::Fault => false,
+    }
+}
+
 // The bytes before a stored packet: its mark and its length.
 pub const STORED_HEAD_BYTES: usize = 4;
 
@@ -75,9 +86,7 @@ pub fn put_head(n: usize, store: &mut [u8], at: usize)
     requires { ⌜ (n ≤ longestPacket) × (at + storedHeadBytes ≤ length (now store)) ⌝ }
     ensures { λ _. ⌜ now (store .exit) ≡ sets (now (store .entry)) at (storedHead n) ⌝ }
 {
-    let word = n as u16;
     store[at] = b'I';
     store[at + 1] = b'P';
-    store[at + 2] = octets::high_of(word);
-    store[at + 3] = octets::low_of(word);
+    octets::put_word(n as u16, store, at + 2);
 }

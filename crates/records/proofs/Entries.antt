@@ -1,19 +1,18 @@
 -- What stands at the start of a file: by the code's tests, and with more behind it. Assumes nothing.
 use mathlib.Core.Path.{_≡_, refl, sym, ap, ap₂, subst, _∙_}
-use mathlib.Core.Bool.{Bool, true, false, cond, true≢false}
+use mathlib.Core.Bool.{Bool, true, false, not, cond, _&&_, true≢false, and-false, and-eq-true-iff}
 use mathlib.Core.Logic.{_⊎_, inl, inr}
-use mathlib.Core.List.{List, _++_}
+use mathlib.Core.List.{List, _∷_, _++_}
 use Prim.Native.Nat.{ℕ, _+_, _-_, _≤_, _<_}
 use native.Mathlib.Omega.{arith}
-use borrow.Author.Tests.{eqb-true, eqb-false, ltb-true, ltb-false, lt-ltb, le-ltb, eq-eqb, ne-eqb}
-use lib.Dec.{eqb, ltb}
+use borrow.Author.Tests.{eqb-true, eqb-false, ltb-true, ltb-false, leb-true, lt-ltb, le-ltb, le-leb, lt-leb, eq-eqb, ne-eqb}
+use lib.Dec.{eqb, ltb, leb}
 use lib.ListN.{length, getD, take, drop, length-append, length-drop, List·getD-append}
 use lib.Seq.{take-append-le, drop-append-le, drop-drop}
-use Rattle.octets.specs.Bits.{Bytes}
 use Rattle.octets.specs.Word.{word}
 use Rattle.text.specs.Text.{text, numbered}
 use Rattle.text.proofs.Laws.{length-numbered}
-use Rattle.octets.proofs.Laws.{either, getD-byte, word-there}
+use Rattle.octets.proofs.Laws.{either, word-there}
 use Rattle.records.specs.declared.Form.{Form}
 use Rattle.records.specs.declared.Form.the-variants.{Foreign, Fixed, Counted}
 use Rattle.records.specs.declared.Entry.{Entry}
@@ -26,35 +25,62 @@ unknown End = false
 unknown (Whole n) = false
 unknown Cut = false
 
--- ---- a record's size, its mark included, by what the mark tells
+-- ---- by what the mark tells: how many bytes tell a record's size, whether the file takes it, the size, its mark included, and the greatest size
 
-abbrev pub tells : Form → Bool
-tells Foreign = false
-tells (Fixed n) = true
-tells Counted = true
+-- the length behind the mark
+abbrev pub countIn : List ℕ → ℕ
+countIn xs = word (getD xs 2 0) (getD xs 3 0)
+
+abbrev pub tellingBytes : Form → ℕ
+tellingBytes Foreign = markBytes
+tellingBytes (Fixed n) = markBytes
+tellingBytes (Counted least most) = markBytes + lengthBytes
+
+abbrev pub allowed : Form → List ℕ → Bool
+allowed Foreign xs = false
+allowed (Fixed n) xs = true
+allowed (Counted least most) xs = leb least (countIn xs) && leb (countIn xs) most
 
 abbrev pub sizeBy : Form → List ℕ → ℕ
 sizeBy Foreign xs = markBytes
 sizeBy (Fixed n) xs = markBytes + n
-sizeBy Counted xs = markBytes + lengthBytes + word (getD xs 2 0) (getD xs 3 0)
+sizeBy (Counted least most) xs = markBytes + lengthBytes + countIn xs
 
-mark-inside : (f : Form) (xs : List ℕ) → markBytes ≤ sizeBy f xs
-mark-inside Foreign xs = omega arith
-mark-inside (Fixed n) xs = omega arith
-mark-inside Counted xs = omega arith
+abbrev pub formBytes : Form → ℕ
+formBytes Foreign = markBytes
+formBytes (Fixed n) = markBytes + n
+formBytes (Counted least most) = markBytes + lengthBytes + most
 
--- one test is enough: where the length itself is cut, what is there is too short whatever it tells
-by-size : (f : Form) (xs : List ℕ) → tells f ≡ true → entryOf f xs ≡ cond (ltb (length xs) (sizeBy f xs)) Cut (Whole (sizeBy f xs))
-by-size Foreign xs t = absurd (true≢false (sym t))
-by-size (Fixed n) xs t = refl
-by-size Counted xs t =
-    either (ltb (length xs) (markBytes + lengthBytes))
-    (λ c.
-    let less : length xs < sizeBy Counted xs = omega (arith, ltb-true (length xs) (markBytes + lengthBytes) c) in
-    simp (c, lt-ltb _ _ less))
-    (λ c. simp c)
+telling-inside : (f : Form) (xs : List ℕ) → (markBytes ≤ tellingBytes f) × (tellingBytes f ≤ sizeBy f xs) × (tellingBytes f ≤ formBytes f)
+telling-inside Foreign xs = (omega arith, omega arith, omega arith)
+telling-inside (Fixed n) xs = (omega arith, omega arith, omega arith)
+telling-inside (Counted least most) xs = (omega arith, omega arith, omega arith)
+
+pub count-within : (xs : List ℕ) (least most : ℕ) → allowed (Counted least most) xs ≡ true → (least ≤ countIn xs) × (countIn xs ≤ most)
+count-within xs least most a =
+    let p = and-eq-true-iff (leb least (countIn xs)) (leb (countIn xs) most) .0 a in
+    (leb-true least (countIn xs) (p .0), leb-true (countIn xs) most (p .1))
+
+size-within : (f : Form) (xs : List ℕ) → allowed f xs ≡ true → sizeBy f xs ≤ formBytes f
+size-within Foreign xs a = omega arith
+size-within (Fixed n) xs a = omega arith
+size-within (Counted least most) xs a = omega (arith, count-within xs least most a .1)
+
+as-of : (f : Form) (xs : List ℕ) → markBytes ≤ length xs → entryAs f xs ≡ entryOf f xs
+as-of f xs two = let some : length xs ≡ 0 → ⊥ = λ z. omega arith in simp (ne-eqb _ _ some, le-ltb _ _ two)
+
+by-size : (f : Form) (xs : List ℕ) → markBytes ≤ length xs → entryAs f xs ≡ cond (ltb (length xs) (tellingBytes f)) Cut (cond (not (allowed f xs)) Unknown (cond (ltb (length xs) (sizeBy f xs)) Cut (Whole (sizeBy f xs))))
+by-size Foreign xs two = as-of Foreign xs two ∙ simp (le-ltb _ _ two)
+by-size (Fixed n) xs two = as-of (Fixed n) xs two ∙ simp (le-ltb _ _ two)
+by-size (Counted least most) xs two = as-of (Counted least most) xs two
 
 -- ---- at a place of a file, test by test
+
+pub mark-first : (a b : ℕ) (xs : List ℕ) → markIn (a ∷ b ∷ xs) ≡ word a b
+unfolding markIn
+mark-first a b xs =
+    let two : markBytes ≤ length (a ∷ b ∷ xs) = omega arith in
+    simp (le-ltb _ _ two)
 
 module _ (xs : List ℕ) (at : ℕ) where
   pub mark-none : length xs - at < markBytes → 0 ≡ markIn (drop at xs)
@@ -97,34 +123,40 @@ module _ (xs : List ℕ) (at : ℕ) where
               let enough : markBytes + n ≤ length xs - at = omega arith in
               simp (ne-eqb _ _ here, length-drop, le-ltb _ _ long, e, le-ltb _ _ enough)
 
-        pub as-counted : form ≡ Counted → (r : Entry) → r ≡ entryOf Counted (drop at xs) → r ≡ entryAs form (drop at xs)
-        as-counted e r is =
-            let some : length (drop at xs) ≡ 0 → ⊥ = λ z. omega (arith, length-drop at xs) in
+        pub as-counted : (least most : ℕ) → form ≡ Counted least most → (r : Entry) → r ≡ entryOf (Counted least most) (drop at xs) → r ≡ entryAs form (drop at xs)
+        as-counted least most e r is =
             let two : markBytes ≤ length (drop at xs) = omega (arith, length-drop at xs) in
-            simp (ne-eqb _ _ some, le-ltb _ _ two, e) is
+            is ∙ sym (as-of (Counted least most) (drop at xs) two) ∙ ap (λ (f : Form). entryAs f (drop at xs)) (sym e)
 
   -- a length behind the mark
-  pub counted-short : length xs - at < markBytes + lengthBytes → Cut ≡ entryOf Counted (drop at xs)
-  counted-short h = simp (length-drop, lt-ltb _ _ h)
+  module _ (least most : ℕ) where
+    pub counted-short : length xs - at < markBytes + lengthBytes → Cut ≡ entryOf (Counted least most) (drop at xs)
+    counted-short h = simp (length-drop, lt-ltb _ _ h)
 
-  module _ (count : ℕ) (is : count ≡ word (getD xs (at + markBytes) 0) (getD xs (at + markBytes + 1) 0)) where
-    size-there : markBytes + lengthBytes + count ≡ sizeBy Counted (drop at xs)
-    size-there =
-        ap (λ (n : ℕ). markBytes + lengthBytes + n)
-        (is
-        ∙ sym (word-there xs (at + markBytes))
-        ∙ ap (λ (t : List ℕ). word (getD t 0 0) (getD t 1 0)) (sym (drop-drop markBytes at xs))
-        ∙ word-there (drop at xs) markBytes)
+    module _ (long : markBytes + lengthBytes ≤ length xs - at) (count : ℕ) (is : count ≡ word (getD xs (at + markBytes) 0) (getD xs (at + markBytes + 1) 0)) where
+      count-there : countIn (drop at xs) ≡ count
+      count-there =
+          sym
+          (is
+          ∙ sym (word-there xs (at + markBytes))
+          ∙ ap (λ (t : List ℕ). word (getD t 0 0) (getD t 1 0)) (sym (drop-drop markBytes at xs))
+          ∙ word-there (drop at xs) markBytes)
 
-    pub counted-cut : length xs - at < markBytes + lengthBytes + count → Cut ≡ entryOf Counted (drop at xs)
-    counted-cut h =
-        let less : length (drop at xs) < sizeBy Counted (drop at xs) = omega (arith, length-drop at xs, size-there) in
-        sym (by-size Counted (drop at xs) refl ∙ simp (lt-ltb _ _ less))
+      by-count : entryOf (Counted least most) (drop at xs) ≡ cond (not (leb least count && leb count most)) Unknown (cond (ltb (length xs - at) (markBytes + lengthBytes + count)) Cut (Whole (markBytes + lengthBytes + count)))
+      by-count = simp (length-drop, le-ltb _ _ long, count-there)
 
-    pub counted-whole : markBytes + lengthBytes + count ≤ length xs - at → Whole (markBytes + lengthBytes + count) ≡ entryOf Counted (drop at xs)
-    counted-whole h =
-        let enough : sizeBy Counted (drop at xs) ≤ length (drop at xs) = omega (arith, length-drop at xs, size-there) in
-        ap Whole size-there ∙ sym (by-size Counted (drop at xs) refl ∙ simp (le-ltb _ _ enough))
+      pub counted-less : count < least → Unknown ≡ entryOf (Counted least most) (drop at xs)
+      counted-less h = sym (by-count ∙ simp (lt-leb _ _ h))
+
+      pub counted-more : most < count → Unknown ≡ entryOf (Counted least most) (drop at xs)
+      counted-more h = sym (by-count ∙ simp (lt-leb _ _ h, and-false))
+
+      module _ (enough : least ≤ count) (few : count ≤ most) where
+        pub counted-cut : length xs - at < markBytes + lengthBytes + count → Cut ≡ entryOf (Counted least most) (drop at xs)
+        counted-cut h = sym (by-count ∙ simp (le-leb _ _ enough, le-leb _ _ few, lt-ltb _ _ h))
+
+        pub counted-whole : markBytes + lengthBytes + count ≤ length xs - at → Whole (markBytes + lengthBytes + count) ≡ entryOf (Counted least most) (drop at xs)
+        counted-whole h = sym (by-count ∙ simp (le-leb _ _ enough, le-leb _ _ few, le-ltb _ _ h))
 
 -- as the code finds it: by the mark, and what that tells
 pub entry-by : (forms : Forms) (xs : List ℕ) (mark : ℕ) (form : Form) (e : Entry) → mark ≡ markIn xs → form ≡ forms mark → e ≡ entryAs form xs → e ≡ entryIn forms xs
@@ -136,52 +168,55 @@ entry-by forms xs mark form e m f is = is ∙ ap (λ (g : Form). entryAs g xs) (
 abbrev pub Shape : Forms → List ℕ → Entry → Type 0
 Shape forms xs End = length xs ≡ 0
 Shape forms xs (Whole size) =
-    (f : Form) × (forms (markIn xs) ≡ f) × (tells f ≡ true) × (size ≡ sizeBy f xs) × (size ≤ length xs)
-Shape forms xs Unknown = (forms (markIn xs) ≡ Foreign) × (markBytes ≤ length xs)
+    (f : Form) × (forms (markIn xs) ≡ f) × (allowed f xs ≡ true) × (size ≡ sizeBy f xs) × (size ≤ length xs)
+Shape forms xs Unknown = (f : Form) × (forms (markIn xs) ≡ f) × (allowed f xs ≡ false) × (tellingBytes f ≤ length xs)
 Shape forms xs Cut =
     ((0 < length xs) × (length xs < markBytes))
-    ⊎ ((f : Form) × (forms (markIn xs) ≡ f) × (tells f ≡ true) × (markBytes ≤ length xs) × (length xs < sizeBy f xs))
+    ⊎ ((f : Form) × (forms (markIn xs) ≡ f) × (markBytes ≤ length xs) × ((length xs < tellingBytes f) ⊎ ((allowed f xs ≡ true) × (length xs < sizeBy f xs))))
 
 module _ (forms : Forms) (xs : List ℕ) where
-  shape-told : (f : Form) → forms (markIn xs) ≡ f → tells f ≡ true → markBytes ≤ length xs → Shape forms xs (entryOf f xs)
-  shape-told f e t l =
-      rw (by-size f xs t)
-      (either (ltb (length xs) (sizeBy f xs)) (λ c. simp c (inr (f, e, t, l, ltb-true _ _ c))) (λ c. simp c (f, e, t, refl, ltb-false _ _ c)))
-
-  by-form : (f : Form) → forms (markIn xs) ≡ f → markBytes ≤ length xs → Shape forms xs (entryOf f xs)
-  by-form Foreign e l = (e, l)
-  by-form (Fixed n) e l = shape-told (Fixed n) e refl l
-  by-form Counted e l = shape-told Counted e refl l
+  shape-told : (f : Form) → forms (markIn xs) ≡ f → markBytes ≤ length xs → Shape forms xs (entryAs f xs)
+  shape-told f e l =
+      rw (by-size f xs l)
+      (either (ltb (length xs) (tellingBytes f)) (λ c. simp c (inr (f, e, l, inl (ltb-true _ _ c))))
+      (λ c.
+      either (allowed f xs)
+      (λ a. either (ltb (length xs) (sizeBy f xs)) (λ d. simp (c, a, d) (inr (f, e, l, inr (a, ltb-true _ _ d)))) (λ d. simp (c, a, d) (f, e, a, refl, ltb-false _ _ d)))
+      (λ a. simp (c, a) (f, e, a, ltb-false _ _ c))))
 
   pub entry-shape : Shape forms xs (entryIn forms xs)
   unfolding entryIn
   entry-shape =
+      either (ltb (length xs) markBytes)
+      (λ l.
       either (eqb (length xs) 0) (λ z. simp z (eqb-true _ _ z))
-      (λ z.
-      either (ltb (length xs) markBytes) (λ l. let some : 0 < length xs = omega (arith, eqb-false (length xs) 0 z) in simp (z, l) (inl (some, ltb-true _ _ l)))
-      (λ l. simp (z, l) (by-form (forms (markIn xs)) refl (ltb-false _ _ l))))
+      (λ z. let some : 0 < length xs = omega (arith, eqb-false (length xs) 0 z) in simp (z, l) (inl (some, ltb-true _ _ l))))
+      (λ l. shape-told (forms (markIn xs)) refl (ltb-false _ _ l))
+
+  -- where the mark tells this
+  told-entry : (f : Form) (e : Entry) → forms (markIn xs) ≡ f → entryAs f xs ≡ e → entryIn forms xs ≡ e
+  unfolding entryIn
+  told-entry f e is = subst (λ (g : Form). entryAs g xs ≡ e) (sym is)
 
   pub shape-entry : (e : Entry) → Shape forms xs e → entryIn forms xs ≡ e
   unfolding entryIn
   shape-entry End h = simp (eq-eqb _ _ h)
-  shape-entry (Whole size) (f, e, t, s, h) =
-      let some : length xs ≡ 0 → ⊥ = λ z. omega (arith, mark-inside f xs) in
-      let two : markBytes ≤ length xs = omega (arith, mark-inside f xs) in
+  shape-entry (Whole size) (f, e, a, s, h) =
+      let tell : tellingBytes f ≤ length xs = omega (arith, telling-inside f xs) in
       let room : sizeBy f xs ≤ length xs = omega arith in
-      simp (ne-eqb _ _ some, le-ltb _ _ two, e) (by-size f xs t ∙ simp (le-ltb _ _ room) (ap Whole (sym s)))
-  shape-entry Unknown (e, two) =
-      let some : length xs ≡ 0 → ⊥ = λ z. omega arith in
-      simp (ne-eqb _ _ some, le-ltb _ _ two, e)
+      told-entry f (Whole size) e (by-size f xs (omega (arith, telling-inside f xs)) ∙ simp (le-ltb _ _ tell, a, le-ltb _ _ room) (ap Whole (sym s)))
+  shape-entry Unknown (f, e, a, tell) =
+      told-entry f Unknown e (by-size f xs (omega (arith, telling-inside f xs)) ∙ simp (le-ltb _ _ tell, a))
   shape-entry Cut (inl (h, l)) =
       let some : length xs ≡ 0 → ⊥ = λ z. omega arith in
       simp (ne-eqb _ _ some, lt-ltb _ _ l)
-  shape-entry Cut (inr (f, e, t, two, l)) =
-      let some : length xs ≡ 0 → ⊥ = λ z. omega arith in
-      simp (ne-eqb _ _ some, le-ltb _ _ two, e) (by-size f xs t ∙ simp (lt-ltb _ _ l))
+  shape-entry Cut (inr (f, e, two, inl l)) = told-entry f Cut e (by-size f xs two ∙ simp (lt-ltb _ _ l))
+  shape-entry Cut (inr (f, e, two, inr (a, l))) =
+      told-entry f Cut e (by-size f xs two ∙ either (ltb (length xs) (tellingBytes f)) (λ c. simp c) (λ c. simp (c, a, lt-ltb _ _ l)))
 
   size-of : (e : Entry) → Shape forms xs e → sizeOf e ≤ length xs
   size-of End h = omega arith
-  size-of (Whole size) (f, e, t, s, h) = h
+  size-of (Whole size) (f, e, a, s, h) = h
   size-of Unknown h = omega arith
   size-of Cut h = omega arith
 
@@ -190,7 +225,7 @@ module _ (forms : Forms) (xs : List ℕ) where
 
   some-of : (e : Entry) → Shape forms xs e → isWhole e ≡ true → markBytes ≤ sizeOf e
   some-of End h w = absurd (true≢false (sym w))
-  some-of (Whole size) (f, e, t, s, h) w = omega (arith, mark-inside f xs)
+  some-of (Whole size) (f, e, a, s, h) w = omega (arith, telling-inside f xs)
   some-of Unknown h w = absurd (true≢false (sym w))
   some-of Cut h w = absurd (true≢false (sym w))
 
@@ -209,23 +244,37 @@ module _ (xs rest : List ℕ) where
       let more : markBytes ≤ length (xs ++ rest) = omega (arith, length-append xs rest) in
       simp (le-ltb _ _ two, le-ltb _ _ more) (ap₂ word (byte-more 0 (omega arith)) (byte-more 1 (omega arith)))
 
-  size-more : (f : Form) → sizeBy f xs ≤ length xs → sizeBy f (xs ++ rest) ≡ sizeBy f xs
+  count-more : markBytes + lengthBytes ≤ length xs → countIn (xs ++ rest) ≡ countIn xs
+  count-more four = ap₂ word (byte-more 2 (omega arith)) (byte-more 3 (omega arith))
+
+  size-more : (f : Form) → tellingBytes f ≤ length xs → sizeBy f (xs ++ rest) ≡ sizeBy f xs
   size-more Foreign h = refl
   size-more (Fixed n) h = refl
-  size-more Counted h =
-      ap (λ (n : ℕ). markBytes + lengthBytes + n) (ap₂ word (byte-more 2 (omega arith)) (byte-more 3 (omega arith)))
+  size-more (Counted least most) h = ap (λ (n : ℕ). markBytes + lengthBytes + n) (count-more h)
+
+  allowed-more : (f : Form) → tellingBytes f ≤ length xs → allowed f (xs ++ rest) ≡ allowed f xs
+  allowed-more Foreign h = refl
+  allowed-more (Fixed n) h = refl
+  allowed-more (Counted least most) h = ap (λ (n : ℕ). leb least n && leb n most) (count-more h)
 
 module _ (forms : Forms) (xs rest : List ℕ) where
   shape-more : (e : Entry) → Shape forms xs e → isWhole e ≡ true ⊎ e ≡ Unknown → Shape forms (xs ++ rest) e
-  shape-more (Whole size) (f, e, t, s, h) w =
-      (f, ap forms (mark-more xs rest (omega (arith, mark-inside f xs))) ∙ e, t, s ∙ sym (size-more xs rest f (omega arith)), omega (arith, length-append xs rest))
-  shape-more Unknown (e, two) w = (ap forms (mark-more xs rest two) ∙ e, omega (arith, length-append xs rest))
+  shape-more (Whole size) (f, e, a, s, h) w =
+      let tell : tellingBytes f ≤ length xs = omega (arith, telling-inside f xs) in (
+        f,
+        ap forms (mark-more xs rest (omega (arith, telling-inside f xs))) ∙ e,
+        allowed-more xs rest f tell ∙ a,
+        s ∙ sym (size-more xs rest f tell),
+        omega (arith, length-append xs rest),
+      )
+  shape-more Unknown (f, e, a, tell) w =
+      (f, ap forms (mark-more xs rest (omega (arith, telling-inside f xs))) ∙ e, allowed-more xs rest f tell ∙ a, omega (arith, length-append xs rest))
   shape-more End h (inl w) = absurd (true≢false (sym w))
   shape-more Cut h (inl w) = absurd (true≢false (sym w))
   shape-more End h (inr w) = absurd (true≢false (ap unknown (sym w)))
   shape-more Cut h (inr w) = absurd (true≢false (ap unknown (sym w)))
 
-  -- a whole record stays one, and an unknown mark stays unknown
+  -- a whole record stays one, and what is unknown stays so
   pub entry-more : isWhole (entryIn forms xs) ≡ true ⊎ entryIn forms xs ≡ Unknown → entryIn forms (xs ++ rest) ≡ entryIn forms xs
   entry-more w = shape-entry forms (xs ++ rest) (entryIn forms xs) (shape-more (entryIn forms xs) (entry-shape forms xs) w)
 
@@ -239,31 +288,18 @@ module _ (forms : Forms) (xs rest : List ℕ) where
 
 -- ---- the end and a cut record are shorter than the longest record
 
--- no mark tells of more bytes than this, its own included; a length is two bytes
-abbrev pub formBytes : Form → ℕ
-formBytes Foreign = markBytes
-formBytes (Fixed n) = markBytes + n
-formBytes Counted = markBytes + lengthBytes + 65535
-
 abbrev pub Within : ℕ → Forms → Type 0
 Within longest forms = (m : ℕ) → formBytes (forms m) ≤ longest
 
-size-within : (f : Form) (xs : List ℕ) → Bytes xs → sizeBy f xs ≤ formBytes f
-size-within Foreign xs b = omega arith
-size-within (Fixed n) xs b = omega arith
-size-within Counted xs b = omega (arith, getD-byte xs 2 b, getD-byte xs 3 b)
-
-module _ (forms : Forms) (longest : ℕ) (within : Within longest forms) (xs : List ℕ) (bytes : Bytes xs) where
-  size-short : (f : Form) → forms (markIn xs) ≡ f → sizeBy f xs ≤ longest
-  size-short f e = omega (arith, size-within f xs bytes, within (markIn xs), ap formBytes e)
-
+module _ (forms : Forms) (longest : ℕ) (within : Within longest forms) (xs : List ℕ) where
   mark-short : markBytes ≤ longest
-  mark-short = omega (arith, mark-inside (forms (markIn xs)) xs, size-short (forms (markIn xs)) refl)
+  mark-short = omega (arith, telling-inside (forms (markIn xs)) xs, within (markIn xs))
 
   short-of : (e : Entry) → Shape forms xs e → (e ≡ End) ⊎ (e ≡ Cut) → length xs < longest
   short-of End h w = omega (arith, mark-short)
   short-of Cut (inl h) w = omega (arith, mark-short)
-  short-of Cut (inr (f, e, t, two, l)) w = omega (arith, size-short f e)
+  short-of Cut (inr (f, e, two, inl l)) w = omega (arith, telling-inside f xs, within (markIn xs), ap formBytes e)
+  short-of Cut (inr (f, e, two, inr (a, l))) w = omega (arith, size-within f xs a, within (markIn xs), ap formBytes e)
   short-of (Whole n) h (inl w) = absurd (true≢false (ap isWhole w))
   short-of (Whole n) h (inr w) = absurd (true≢false (ap isWhole w))
   short-of Unknown h (inl w) = absurd (true≢false (ap unknown w))

@@ -1,3 +1,5 @@
 pub mod Entries
+pub mod Counted
 pub mod Transcripts
 pub mod Filling
+pub mod Channels

@@ -1,2 +1,3 @@
 pub mod Records
 pub mod Transcripts
+pub mod Channels

@@ -1,9 +1,9 @@
 -- A file of records, one after the other: a two-byte mark, then as many bytes as the mark tells, or as a length behind it tells.
 use Prim.Native.Nat.{ℕ, zero, suc, _+_, _-_}
 use Prim.Native.String.{String}
-use mathlib.Core.Bool.{Bool, true, false, cond}
+use mathlib.Core.Bool.{Bool, true, false, not, cond, _&&_}
 use mathlib.Core.List.{List, [], _∷_, _++_}
-use lib.Dec.{eqb, ltb}
+use lib.Dec.{eqb, ltb, leb}
 use lib.ListN.{length, getD, take, drop}
 use Rattle.octets.specs.Word.{word}
 use Rattle.text.specs.Text.{text, numbered}
@@ -30,15 +30,18 @@ markOf w = word (getD (text w) 0 0) (getD (text w) 1 0)
 abbrev pub Forms : Type 0
 Forms = ℕ → Form
 
--- ---- what stands at the start of xs: the end, a whole record of so many bytes, an unknown mark, or a record that is cut
+-- ---- what stands at the start of xs: the end, a whole record of so many bytes, an unknown mark or one with a length that it does not take, or a record that
+-- is cut
 
 abbrev pub entryOf : Form → List ℕ → Entry
 entryOf Foreign xs = Unknown
 entryOf (Fixed n) xs = cond (ltb (length xs) (markBytes + n)) Cut (Whole (markBytes + n))
-entryOf Counted xs =
+entryOf (Counted least most) xs =
     cond (ltb (length xs) (markBytes + lengthBytes)) Cut
-    (let n = markBytes + lengthBytes + word (getD xs 2 0) (getD xs 3 0) in
-    cond (ltb (length xs) n) Cut (Whole n))
+    (let count = word (getD xs 2 0) (getD xs 3 0) in
+    cond (not (leb least count && leb count most)) Unknown
+    (let n = markBytes + lengthBytes + count in
+    cond (ltb (length xs) n) Cut (Whole n)))
 
 abbrev pub entryAs : Form → List ℕ → Entry
 entryAs form xs =

@@ -9,8 +9,8 @@ ghost use Rattle.records.specs.Records.{markBytes, markIn, entryOf, entr
 pub enum Form {
     Foreign,
     Fixed(usize),
-    // a two-byte length follows the mark, big-endian, and that many bytes
-    Counted,
+    // a two-byte length follows the mark, big-endian, and that many bytes, no fewer and no more than these
+    Counted { least: usize, most: usize },
 }
 
 // What stands at a place of a file.
@@ -18,6 +18,7 @@ pub enum Entry {
     End,
     // a whole record of so many bytes
     Whole(usize),
+    // an unknown mark, or one with a length that it does not take
     Unknown,
     Cut,
 }
@@ -41,18 +42,24 @@ pub fn mark_at(file: &[u8], at: usize) -> u16
     octets::word_of(file[at], file[at + 1])
 }
 
-// What stands at a place whose mark a length follows.
-fn counted_at(file: &[u8], at: usize) -> Entry
+// What stands at a place whose mark a length within these limits follows.
+fn counted_at(file: &[u8], at: usize, least: usize, most: usize) -> Entry
     requires { ⌜ at + markBytes ≤ length (now file) ⌝ }
-    ensures { λ r. ⌜ r ≡ entryOf Form.Counted (drop at (now (file .entry))) ⌝ }
+    ensures { λ r. ⌜ r ≡ entryOf (Form.Counted least most) (drop at (now (file .entry))) ⌝ }
 {
     let left = file.len() - at;
     if left < MARK_BYTES + LENGTH_BYTES {
         return Entry::Cut;
     }
     let from = at + MARK_BYTES;
-    let count = octets::word_of(file[from], file[from + 1]);
-    let size = MARK_BYTES + LENGTH_BYTES + (count as usize);
+    let count = octets::word_of(file[from], file[from + 1]) as usize;
+    if count < least {
+        return Entry::Unknown;
+    }
+    if most < count {
+        return Entry::Unknown;
+    }
+    let size = MARK_BYTES + LENGTH_BYTES + count;
     if left < size {
         Entry::Cut
     } else {
@@ -80,7 +87,7 @@ pub fn entry_at(file: &[u8], at: usize, form: Form) -> Entry
                 Entry::Whole(MARK_BYTES + n)
             }
         }
-        Form::Counted => counted_at(file, at),
+        Form::Counted { least, most } => counted_at(file, at, least, most),
     }
 }
 

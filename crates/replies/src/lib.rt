@@ -25,9 +25,7 @@ fn refuse(reasons: i32, refusal: Unwritten) -> Ending
     ensures { λ r. ⌜ r ≡ Ending.Over (unwrittenNumber refusal) ⌝ }
 {
     let number = writer::unwritten_number(refusal);
-    io::write_all(reasons, b"write: refused with ");
-    io::print_decimal(reasons, number as u64);
-    io::write_all(reasons, b"\n");
+    manners::tell_refused(reasons, b"write", number);
     Ending::Over(number)
 }
 

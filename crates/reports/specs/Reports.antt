@@ -1,12 +1,16 @@
 -- The report of a program that writes records: nothing for a record that went well; else a line with its mark, its number in the input, and what there is to
 -- say, each only where it applies and is not 0.
-use Prim.Native.Nat.{ℕ}
+use Prim.Native.Nat.{ℕ, _+_, _%_, _^_}
 use Prim.Native.String.{String}
 use mathlib.Core.Bool.{Bool, cond}
 use mathlib.Core.List.{List, [], _++_}
 use lib.Dec.{eqb}
 use lib.ListN.{length}
 use Rattle.text.specs.Text.{text, newline, decimal, numbered}
+
+-- the number of the next record, in 64 bits
+abbrev pub following : ℕ → ℕ
+following n = (n + 1) % 2 ^ 64
 
 -- a number behind a word, where it is not 0
 abbrev pub counted : String → ℕ → List ℕ

@@ -6,10 +6,20 @@ ghost use Prim.Native.Nat.{_+_, _≤_};
 ghost use lib.Dec.{eqb};
 ghost use lib.ListN.{length};
 ghost use Rattle.text.specs.Text.{text as Text·text, decimal, Put};
-ghost use Rattle.reports.specs.Reports.{said, reportLine, heldLine, longestReport};
+ghost use Rattle.reports.specs.Reports.{following, said, reportLine, heldLine, longestReport};
 
 // Room for any line.
 pub const LONGEST_REPORT: usize = 128;
+
+// The number of the next record.
+pub fn next_count(n: u64) -> u64
+    ensures { λ r. ⌜ r ≡ following n ⌝ }
+{
+    if n == u64::MAX {
+        return 0;
+    }
+    n + 1
+}
 
 // Whether there is nothing to say.
 fn is_silent(number: u8, repeat: bool, gap: u16, lost: usize) -> bool

@@ -1,49 +1,43 @@
 -- What stands at a place of a store, in the code's own terms; and what was stored is read back, packet by packet. Assumes nothing.
 use mathlib.Core.Path.{_≡_, refl, sym, ap, ap₂, subst, _∙_}
+use mathlib.Core.Bool.{true, true≢false}
 use mathlib.Core.List.{List, [], _∷_, _++_, flatMap}
-use mathlib.Core.Logic.{inl, inr}
 use Prim.Native.Nat.{ℕ, zero, suc, _+_, _-_, _≤_, _<_}
 use native.Mathlib.Omega.{arith}
-use borrow.Author.Tests.{ne-eqb, le-ltb, leb-true}
-use lib.Dec.{leb}
 use lib.ListN.{length, take, drop, length-append, length-drop}
 use lib.Seq.{drop-drop, take-at, drop-at}
 use Rattle.octets.specs.Each.{Each}
 use Rattle.octets.specs.Word.{wordBytes}
-use Rattle.octets.proofs.Laws.{either}
-use Rattle.text.specs.Text.{text}
-use Rattle.records.specs.declared.Form.{Form}
-use Rattle.records.specs.declared.Form.the-variants.{Foreign, Counted}
+use Rattle.octets.proofs.Laws.{word-high-low}
+use Rattle.records.specs.declared.Form.the-variants.{Counted}
 use Rattle.records.specs.declared.Entry.{Entry}
 use Rattle.records.specs.declared.Entry.the-variants.{Unknown, Cut}
 use Rattle.records.specs.declared.Entry.the-variants.{End as EntryEnd, Whole as EntryWhole}
-use Rattle.records.specs.Records.{markBytes, markIn, markOf, entryAs, entryIn}
-use Rattle.records.proofs.Entries.{entry-by, Shape, entry-shape, shape-entry}
+use Rattle.records.specs.Records.{markOf, entryIn, isWhole, sizeOf}
+use Rattle.records.proofs.Entries.{mark-first}
+use Rattle.records.proofs.Counted.{whole-counted, counted-entry, whole-marked}
 use Rattle.packets.specs.Packets.{shortestPacket, longestPacket, Carried}
 use Rattle.packets.specs.Stored.{storedHeadBytes, storedPacket, stored}
-use Rattle.packets.proofs.Laws.{within, without}
 use Rattle.store.specs.declared.Next.{Next}
 use Rattle.store.specs.declared.Next.the-variants.{End, Packet, Broken}
 use Rattle.store.specs.Store.{storeForm, nextBy, nextIn, packetBy, packetPlace, packetIn, Kept, keptFrom, keptUpTo, keptIn}
 
--- ---- what stands at the start of a store, test by test
+-- ---- what stands at the start of a store
 
-pub form-foreign : (m : ℕ) → (m ≡ markOf "IP" → ⊥) → Foreign ≡ storeForm m
-form-foreign m h = simp (ne-eqb _ _ h)
-
-module _ (e : Entry) (size : ℕ) (is : e ≡ EntryWhole size) where
-  pub by-short : size < storedHeadBytes + shortestPacket → Broken ≡ nextBy e
-  by-short h = simp (is, without (size - storedHeadBytes) (inl (omega arith)))
-
-  pub by-long : storedHeadBytes + longestPacket < size → Broken ≡ nextBy e
-  by-long h = simp (is, without (size - storedHeadBytes) (inr (omega arith)))
-
-  pub by-packet : storedHeadBytes + shortestPacket ≤ size → size ≤ storedHeadBytes + longestPacket → Packet (size - storedHeadBytes) ≡ nextBy e
-  by-packet h g = simp (is, within (size - storedHeadBytes) (omega arith) (omega arith))
-
-pub next-by : (xs : List ℕ) (mark : ℕ) (form : Form) (e : Entry) (next : Next) → mark ≡ markIn xs → form ≡ storeForm mark → e ≡ entryAs form xs → next ≡ nextBy e → next ≡ nextIn xs
+pub next-by : (xs : List ℕ) (e : Entry) (next : Next) → e ≡ entryIn storeForm xs → next ≡ nextBy e → next ≡ nextIn xs
 unfolding nextIn
-next-by xs mark form e next m f g is = is ∙ ap nextBy (entry-by storeForm xs mark form e m f g)
+next-by xs e next stands is = is ∙ ap nextBy stands
+
+-- a whole record is a packet within the limits, behind its head
+whole-packet : (xs : List ℕ) (size : ℕ) → EntryWhole size ≡ entryIn storeForm xs → (storedHeadBytes + shortestPacket ≤ size) × (size ≤ storedHeadBytes + longestPacket) × (size ≤ length xs)
+whole-packet xs size stands =
+    whole-counted storeForm xs size stands shortestPacket longestPacket (whole-marked (markOf "IP") (Counted shortestPacket longestPacket) xs size stands)
+
+pub head-inside : (xs : List ℕ) (e : Entry) → e ≡ entryIn storeForm xs → isWhole e ≡ true → storedHeadBytes ≤ sizeOf e
+head-inside xs (EntryWhole size) stands w = omega (arith, whole-packet xs size stands .0)
+head-inside xs EntryEnd stands w = absurd (true≢false (sym w))
+head-inside xs Unknown stands w = absurd (true≢false (sym w))
+head-inside xs Cut stands w = absurd (true≢false (sym w))
 
 -- ---- a packet that stands there is within the limits, and inside the store
 
@@ -52,28 +46,23 @@ Means xs (Packet n) = (shortestPacket ≤ n) × (n ≤ longestPacket) × (stored
 Means xs End = Unit {0}
 Means xs Broken = Unit {0}
 
-by-means : (xs : List ℕ) (e : Entry) → Shape storeForm xs e → Means xs (nextBy e)
-by-means xs EntryEnd s = tt
-by-means xs (EntryWhole size) s =
-    let n : ℕ = size - storedHeadBytes in
-    either (leb shortestPacket n)
-    (λ g.
-    rw g
-    (either (leb n longestPacket) (λ h. rw h (leb-true shortestPacket n g, leb-true n longestPacket h, omega (arith, leb-true shortestPacket n g, s .4)))
-    (λ h. rw h tt)))
-    (λ g. rw g tt)
-by-means xs Unknown s = tt
-by-means xs Cut s = tt
+by-means : (xs : List ℕ) (e : Entry) → e ≡ entryIn storeForm xs → Means xs (nextBy e)
+by-means xs (EntryWhole size) stands =
+    let w = whole-packet xs size stands in
+    (omega (arith, w .0), omega (arith, w .1), omega (arith, w .0, w .2))
+by-means xs EntryEnd stands = tt
+by-means xs Unknown stands = tt
+by-means xs Cut stands = tt
 
-next-means : (xs : List ℕ) {e : Next} → nextIn xs ≡ e → Means xs e
+pub packet-means : (xs : List ℕ) (n : ℕ) → nextIn xs ≡ Packet n → (shortestPacket ≤ n) × (n ≤ longestPacket) × (storedHeadBytes + n ≤ length xs)
 unfolding nextIn
-next-means xs is = subst (Means xs) is (by-means xs (entryIn storeForm xs) (entry-shape storeForm xs))
+packet-means xs n is = subst (Means xs) is (by-means xs (entryIn storeForm xs) refl)
 
 -- ---- the packet at a place of a store, as the code takes it: its bytes, and their offset in the memory by that of the store
 
 module _ (store : List ℕ) (at n : ℕ) (stands : Packet n ≡ nextIn (drop at store)) where
   pub packet-room : at + storedHeadBytes + n ≤ length store
-  packet-room = omega (arith, next-means (drop at store) (sym stands) .2, length-drop at store)
+  packet-room = omega (arith, packet-means (drop at store) n (sym stands) .2, length-drop at store)
 
   pub packet-there : take (at + storedHeadBytes + n - (at + storedHeadBytes)) (drop (at + storedHeadBytes) store) ≡ packetIn (drop at store)
   packet-there =
@@ -94,7 +83,7 @@ from-same End f g xs h = refl
 from-same Broken f g xs h = refl
 
 left-shorter : (xs : List ℕ) (n k : ℕ) → nextIn xs ≡ Packet n → length xs < suc k → length (drop (storedHeadBytes + n) xs) < k
-left-shorter xs n k is h = omega (arith, next-means xs is .2, length-drop (storedHeadBytes + n) xs)
+left-shorter xs n k is h = omega (arith, packet-means xs n is .2, length-drop (storedHeadBytes + n) xs)
 
 pub kept-any : (n m : ℕ) (xs : List ℕ) → length xs < n → length xs < m → keptUpTo n xs ≡ keptUpTo m xs
 unfolding keptUpTo
@@ -112,20 +101,11 @@ kept-next xs =
 
 -- ---- what was stored is read back
 
-mark-stored : (xs : List ℕ) → markIn (text "IP" ++ xs) ≡ markOf "IP"
-unfolding markIn
-mark-stored xs =
-    let two : markBytes ≤ length (text "IP" ++ xs) = omega arith in
-    simp (le-ltb _ _ two)
-
 pub next-stored : (p rest : List ℕ) → Carried p → nextIn (storedPacket p ++ rest) ≡ Packet (length p)
 unfolding nextIn
 next-stored p rest c =
-    let size : ℕ = storedHeadBytes + length p in
     ap nextBy
-    (shape-entry storeForm (storedPacket p ++ rest) (EntryWhole size)
-    (Counted, ap storeForm (mark-stored (wordBytes (length p) ++ p ++ rest)), refl, omega arith, omega (arith, length-append p rest)))
-    ∙ sym (by-packet (EntryWhole size) size refl (omega (arith, c .least)) (omega (arith, c .most)))
+    (counted-entry storeForm (storedPacket p ++ rest) shortestPacket longestPacket (length p) (ap storeForm (mark-first _ _ (wordBytes (length p) ++ p ++ rest))) (word-high-low (length p)) (c .least) (c .most) (omega (arith, length-append p rest)))
     ∙ ap Packet (omega arith)
 
 pub stored-kept : (ps : List (List ℕ)) → Each Carried ps → keptIn (stored ps) ≡ record { packets = ps; end = End }

@@ -11,17 +11,17 @@ use Rattle.records.specs.declared.Form.the-variants.{Foreign, Counted}
 use Rattle.records.specs.Records.{markOf, Forms, entryIn}
 use Rattle.store.specs.declared.Next.{Next}
 use Rattle.store.specs.declared.Next.the-variants.{End, Packet, Broken}
-use Rattle.packets.specs.Packets.{withinLimits}
+use Rattle.packets.specs.Packets.{shortestPacket, longestPacket}
 use Rattle.packets.specs.Stored.{storedHeadBytes}
 
 -- ---- the next packet; 15 is for an unknown mark, a cut record or a length outside the limits
 
 abbrev pub storeForm : Forms
-storeForm mark = cond (eqb mark (markOf "IP")) Counted Foreign
+storeForm mark = cond (eqb mark (markOf "IP")) (Counted shortestPacket longestPacket) Foreign
 
 abbrev pub nextBy : Entry → Next
 nextBy EntryEnd = End
-nextBy (EntryWhole n) = let m = n - storedHeadBytes in cond (withinLimits m) (Packet m) Broken
+nextBy (EntryWhole n) = Packet (n - storedHeadBytes)
 nextBy Unknown = Broken
 nextBy Cut = Broken
 

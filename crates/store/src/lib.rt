@@ -5,9 +5,12 @@ use packets::STORED_HEAD_BYTES;
 use records::Entry;
 use records::Form;
 ghost use mathlib.Core.Path.{_≡_};
+ghost use mathlib.Core.Bool.{true};
 ghost use denote.Ref.{ptr};
-ghost use Prim.Native.Nat.{_+_};
+ghost use Prim.Native.Nat.{_+_, _≤_};
 ghost use lib.ListN.{drop};
+ghost use Rattle.records.specs.Records.{isWhole, sizeOf};
+ghost use Rattle.packets.specs.Stored.{storedHeadBytes};
 ghost use Rattle.store.specs.Store.{storeForm, nextBy, nextIn, nextNumber, packetIn, packetPlace};
 
 // What stands at a place of a store.
@@ -24,26 +27,22 @@ fn form_of(mark: u16) -> Form
     ensures { λ r. ⌜ r ≡ storeForm mark ⌝ }
 {
     match mark {
-        0x4950 => Form::Counted,
+        0x4950 => Form::Counted {
+            least: SHORTEST_PACKET,
+            most: LONGEST_PACKET,
+        },
         _ => Form::Foreign,
     }
 }
 
 // By the record that stands there.
 fn next_by(entry: Entry) -> Next
+    requires { ⌜ (isWhole entry ≡ true → storedHeadBytes ≤ sizeOf entry) ⌝ }
     ensures { λ r. ⌜ r ≡ nextBy entry ⌝ }
 {
     match entry {
         Entry::End => Next::End,
-        Entry::Whole(size) => {
-            if size < STORED_HEAD_BYTES + SHORTEST_PACKET {
-                return Next::Broken;
-            }
-            if STORED_HEAD_BYTES + LONGEST_PACKET < size {
-                return Next::Broken;
-            }
-            Next::Packet(size - STORED_HEAD_BYTES)
-        }
+        Entry::Whole(size) => Next::Packet(size - STORED_HEAD_BYTES),
         Entry::Unknown => Next::Broken,
         Entry::Cut => Next::Broken,
     }

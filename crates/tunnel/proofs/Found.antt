@@ -89,7 +89,7 @@ module _ (P : Found → Type 0) where
 abbrev pub weight : Found → ℕ
 weight f = length (line (f .packets)) + (length (f .part) + f .lost)
 
-line-append : (ps qs : List (List ℕ)) → line (ps ++ qs) ≡ line ps ++ line qs
+pub line-append : (ps qs : List (List ℕ)) → line (ps ++ qs) ≡ line ps ++ line qs
 unfolding line flatMap
 line-append [] qs = refl
 line-append (p ∷ ps) qs = ap (λ (t : List ℕ). p ++ t) (line-append ps qs) ∙ sym (append-assoc p (line ps) (line qs))

@@ -77,7 +77,7 @@ abbrev pub behind : List ℕ → ℕ → List ℕ → ℕ → List ℕ
 behind part held outer start = take held part ++ upTo outer start
 
 -- the start of a list put over itself
-sets-front : (l : List ℕ) (n : ℕ) → n ≤ length l → sets l 0 (take n l) ≡ l
+pub sets-front : (l : List ℕ) (n : ℕ) → n ≤ length l → sets l 0 (take n l) ≡ l
 sets-front l n h =
     let e : 0 + length (take n l) ≡ n = omega (arith, length-take-le n l h) in
     sets-eq (take n l) l 0 (omega (arith, length-take-le n l h)) ∙ ap (λ (k : ℕ). take n l ++ drop k l) e ∙ take-append-drop n l

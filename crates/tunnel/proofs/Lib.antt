@@ -6,3 +6,4 @@ pub mod Accepted
 pub mod Answers
 pub mod Results
 pub mod Samples
+pub mod Outers

@@ -26,8 +26,9 @@ use Rattle.carriage.specs.Fed.{Call, fed, outOf, Whole, Read, Idle, Balanced, F
 use Rattle.carriage.proofs.Results as calls
 use Rattle.carriage.proofs.InOrder as orders
 use Rattle.records.specs.Transcripts.{printedWith}
+use Rattle.records.specs.Channels.{outputOf, reportOf}
 use Rattle.blocks.specs.Turns.{Reading, broughtBy, failsIn, lastWritten, turned, enough}
-use Rattle.unwrapping.specs.Unwrapping.{State, packetsProgram, reportProgram}
+use Rattle.unwrapping.specs.Unwrapping.{State, unwrapChannels}
 use Rattle.unwrap_stream.proofs.Written as written
 
 -- ---- one call, for any state, any outer packet and any output
@@ -84,8 +85,8 @@ read-back = stores.stored-kept
 -- ---- the program: what all turns write, on either channel, is what it prints for the file, whatever the reads bring
 
 module _ (room : ℕ) (s : State) (xs : List ℕ) (reads : List Reading) (turns : ℕ) (space : shortestOutput ≤ room) (many : enough xs reads ≤ turns) where
-  pub packets-written : turned packetsProgram room turns s xs reads ≡ printedWith (λ t. lastWritten (failsIn reads) (packetsProgram .last t)) packetsProgram s (xs ++ broughtBy reads)
+  pub packets-written : turned (outputOf unwrapChannels) room turns s xs reads ≡ printedWith (λ t. lastWritten (failsIn reads) (unwrapChannels .last t)) (outputOf unwrapChannels) s (xs ++ broughtBy reads)
   packets-written = written.packets-written room s xs reads turns space many
 
-  pub report-written : turned reportProgram room turns s xs reads ≡ printedWith (λ t. lastWritten (failsIn reads) (reportProgram .last t)) reportProgram s (xs ++ broughtBy reads)
+  pub report-written : turned (reportOf unwrapChannels) room turns s xs reads ≡ printedWith (λ t. lastWritten (failsIn reads) (unwrapChannels .lastReport t)) (reportOf unwrapChannels) s (xs ++ broughtBy reads)
   report-written = written.report-written room s xs reads turns space many

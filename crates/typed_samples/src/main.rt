@@ -1,23 +1,18 @@
 // Runs what the program `write` does on each stored text that the arguments name, the reasons on standard output too, and the status.
 use libc::STDOUT_FILENO;
 
-fn say(text: &[u8]) {
-    io::write_all(STDOUT_FILENO, text);
-}
-
 // The answer to the text of a file.
 fn run(name: &[u8]) {
-    say(name);
-    say(b"\n");
+    samples::say(name);
+    samples::say(b"\n");
     let file = os::open_read(name);
     if file < 0 {
         os::fail(name);
         return;
     }
     let ending = replies::reply(file, STDOUT_FILENO, STDOUT_FILENO);
-    say(b"\nstatus ");
-    io::print_decimal(STDOUT_FILENO, manners::status_of(ending) as u64);
-    say(b"\n");
+    samples::say(b"\n");
+    samples::end(ending);
     libc::close(file);
 }
 

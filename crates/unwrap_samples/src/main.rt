@@ -1,53 +1,28 @@
 // Unwraps each stored file that the arguments name, twice: through a block of one of the longest records, and through a large one. Prints the packets, then the
 // report and the status.
 use libc::STDOUT_FILENO;
-use manners::Ending;
-
-fn say(text: &[u8]) {
-    io::write_all(STDOUT_FILENO, text);
-}
-
-// Says what follows, and opens the file; below 0 where that fails.
-fn open(name: &[u8], blocks: u64, what: &[u8]) -> i32 {
-    say(name);
-    say(b", blocks of ");
-    io::print_decimal(STDOUT_FILENO, blocks);
-    say(what);
-    let file = os::open_read(name);
-    if file < 0 {
-        os::fail(name);
-    }
-    file
-}
-
-// Says the status of a program that ended so.
-fn end(ending: Ending) {
-    say(b"status ");
-    io::print_decimal(STDOUT_FILENO, manners::status_of(ending) as u64);
-    say(b"\n");
-}
 
 // Through a block of one of the longest records; what is not printed goes nowhere.
 fn run_slowly(name: &[u8], nowhere: i32) {
     let mut block = [0u8; 65539];
-    let packets = open(name, 65539, b": packets\n");
+    let packets = samples::open(name, 65539, b": packets\n");
     unwrap_stream::copy_slowly(packets, STDOUT_FILENO, nowhere, &mut block);
     libc::close(packets);
-    say(b"\n");
-    let report = open(name, 65539, b": report\n");
-    end(unwrap_stream::copy_slowly(report, nowhere, STDOUT_FILENO, &mut block));
+    samples::say(b"\n");
+    let report = samples::open(name, 65539, b": report\n");
+    samples::end(unwrap_stream::copy_slowly(report, nowhere, STDOUT_FILENO, &mut block));
     libc::close(report);
 }
 
 // Through a large one.
 fn run(name: &[u8], nowhere: i32) {
     let mut block = [0u8; 131072];
-    let packets = open(name, 131072, b": packets\n");
+    let packets = samples::open(name, 131072, b": packets\n");
     unwrap_stream::copy(packets, STDOUT_FILENO, nowhere, &mut block);
     libc::close(packets);
-    say(b"\n");
-    let report = open(name, 131072, b": report\n");
-    end(unwrap_stream::copy(report, nowhere, STDOUT_FILENO, &mut block));
+    samples::say(b"\n");
+    let report = samples::open(name, 131072, b": report\n");
+    samples::end(unwrap_stream::copy(report, nowhere, STDOUT_FILENO, &mut block));
     libc::close(report);
 }
 

@@ -3,13 +3,14 @@ use mathlib.Core.Path.{_≡_}
 use mathlib.Core.List.{List, _++_}
 use Prim.Native.Nat.{ℕ, _≤_}
 use Rattle.records.specs.Transcripts.{printedWith}
+use Rattle.records.specs.Channels.{outputOf, reportOf}
 use Rattle.blocks.specs.Turns.{Reading, broughtBy, failsIn, lastWritten, turned, enough}
 use Rattle.blocks.proofs.Turns.{turned-printed}
 use Rattle.tunnel.specs.Unwrap.{shortestOutput}
-use Rattle.unwrapping.specs.Unwrapping.{State, packetsProgram, reportProgram}
+use Rattle.unwrapping.specs.Unwrapping.{State, unwrapChannels}
 
-pub packets-written : (room : ℕ) (s : State) (xs : List ℕ) (reads : List Reading) (n : ℕ) → shortestOutput ≤ room → enough xs reads ≤ n → turned packetsProgram room n s xs reads ≡ printedWith (λ t. lastWritten (failsIn reads) (packetsProgram .last t)) packetsProgram s (xs ++ broughtBy reads)
-packets-written = turned-printed packetsProgram
+pub packets-written : (room : ℕ) (s : State) (xs : List ℕ) (reads : List Reading) (n : ℕ) → shortestOutput ≤ room → enough xs reads ≤ n → turned (outputOf unwrapChannels) room n s xs reads ≡ printedWith (λ t. lastWritten (failsIn reads) (unwrapChannels .last t)) (outputOf unwrapChannels) s (xs ++ broughtBy reads)
+packets-written = turned-printed (outputOf unwrapChannels)
 
-pub report-written : (room : ℕ) (s : State) (xs : List ℕ) (reads : List Reading) (n : ℕ) → shortestOutput ≤ room → enough xs reads ≤ n → turned reportProgram room n s xs reads ≡ printedWith (λ t. lastWritten (failsIn reads) (reportProgram .last t)) reportProgram s (xs ++ broughtBy reads)
-report-written = turned-printed reportProgram
+pub report-written : (room : ℕ) (s : State) (xs : List ℕ) (reads : List Reading) (n : ℕ) → shortestOutput ≤ room → enough xs reads ≤ n → turned (reportOf unwrapChannels) room n s xs reads ≡ printedWith (λ t. lastWritten (failsIn reads) (unwrapChannels .lastReport t)) (reportOf unwrapChannels) s (xs ++ broughtBy reads)
+report-written = turned-printed (reportOf unwrapChannels)

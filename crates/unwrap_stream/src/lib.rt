@@ -3,19 +3,19 @@
 use blocks::Step;
 use blocks::Unread;
 use manners::Ending;
-use manners::Sent;
 use tunnel::Numbers;
 ghost use mathlib.Core.Path.{_≡_};
-ghost use Prim.Native.Nat.{_≤_};
+ghost use mathlib.Core.List.{List};
+ghost use Prim.Native.Nat.{ℕ, _≤_};
 ghost use lib.Dec.{T};
 ghost use lib.ListN.{length};
 ghost use Rattle.octets.specs.Checks.{among};
 ghost use Rattle.records.specs.Records.{entryIn};
 ghost use Rattle.manners.specs.Manners.{statusOf};
 ghost use Rattle.blocks.specs.Blocks.{unread as Blocks·unread, Concludes, runStatuses};
+ghost use Rattle.blocks.specs.Channels.{BothSay, LastSaid, RunSays};
 ghost use Rattle.tunnel.specs.Unwrap.{shortestOutput};
-ghost use Rattle.unwrapping.specs.Unwrapping.{outerForm, longestRecord, state};
-ghost use Rattle.unwrap_stream.specs.Streams.{BothSay, LastSaid, RunSays};
+ghost use Rattle.unwrapping.specs.Unwrapping.{outerForm, longestRecord, state, unwrapChannels};
 
 // After a turn: the reader's numbers, how many records were read, how much was put to the output and to the report, and what is unread.
 struct Turned {
@@ -34,15 +34,6 @@ struct Ended {
     have: usize,
 }
 
-// Writes the packets, and then the report.
-fn send(to: i32, packets: &[u8], aside: i32, report: &[u8]) -> Sent {
-    match manners::write_out(to, packets) {
-        Sent::All => manners::write_out(aside, report),
-        Sent::Gone => Sent::Gone,
-        Sent::Failed => Sent::Failed,
-    }
-}
-
 // One turn: the records at the start of what is unread, as many as the output has room for; and it goes on behind them.
 fn turn(
     numbers: Numbers,
@@ -58,7 +49,7 @@ fn turn(
     aside: i32,
 ) -> Turned
     requires { ⌜ (at ≤ have) × (have ≤ length (now block)) × (longestRecord ≤ length (now block)) × (length (now report) ≡ length (now out)) ⌝ }
-    ensures { λ r. ⌜ BothSay (state numbers (now (part .entry)) count) (now (block .entry)) at have (now (out .entry)) (now (report .entry)) (state (r .numbers) (now (part .exit)) (r .count)) (now (block .exit)) (now (out .exit)) (r .wrote) (now (report .exit)) (r .told) (r .unread) ⌝ }
+    ensures { λ r. ⌜ BothSay unwrapChannels (state numbers (now (part .entry)) count) (now (block .entry)) at have (now (out .entry)) (now (report .entry)) (state (r .numbers) (now (part .exit)) (r .count)) (now (block .exit)) (now (out .exit)) (r .wrote) (now (report .exit)) (r .told) (r .unread) ⌝ }
 {
     let f = unwrapping::fill(numbers, part, count, &block[at..have], out, report);
     let after = f.numbers;
@@ -66,7 +57,7 @@ fn turn(
     let told = f.told;
     let next = at + f.read;
     let entry = unwrapping::entry_at(&block[..have], next);
-    let sent = send(to, &out[..wrote], aside, &report[..told]);
+    let sent = manners::write_both(to, &out[..wrote], aside, &report[..told]);
     let u = blocks::proceed(sent, from, block, at, next, have, entry);
     Turned {
         numbers: after,
@@ -77,7 +68,7 @@ fn turn(
     }
 }
 
-// Ends a run at a step: the part that is held and the last line are told.
+// Ends a run at a step: the part that is held and the last line are told, and nothing comes last in the output.
 fn finish(
     numbers: Numbers,
     part: &[u8; 1500],
@@ -90,13 +81,13 @@ fn finish(
     aside: i32,
 ) -> Ended
     requires { ⌜ (at ≤ have) × (have ≤ length (now block)) × (shortestOutput ≤ length (now report)) ⌝ }
-    ensures { λ r. ⌜ Concludes step (entryIn outerForm (Blocks·unread (now (block .entry)) at have)) (r .ending) × LastSaid (state numbers (now (part .entry)) 0) (entryIn outerForm (Blocks·unread (now (block .entry)) at have)) (now (report .exit)) × (r .turns ≡ turns) × (r .at ≡ at) × (r .have ≡ have) ⌝ }
+    ensures { λ r. ⌜ ((out : List ℕ) → Concludes step (entryIn outerForm (Blocks·unread (now (block .entry)) at have)) (r .ending) × LastSaid unwrapChannels (state numbers (now (part .entry)) 0) (entryIn outerForm (Blocks·unread (now (block .entry)) at have)) out (now (report .exit)) × (r .turns ≡ turns) × (r .at ≡ at) × (r .have ≡ have)) ⌝ }
 {
     let entry = unwrapping::entry_at(&block[..have], at);
     let held = tunnel::held(numbers, part);
     let line = reports::put_held(held, report, 0);
     let end = line + records::put_last(entry, &mut report[line..]);
-    let ending = blocks::conclude(step, entry, &report[..end], aside);
+    let ending = blocks::conclude(step, entry, &report[..end], aside, b"", aside);
     Ended {
         ending: ending,
         turns: turns,
@@ -116,7 +107,7 @@ fn run(
     aside: i32,
 ) -> Ended
     requires { ⌜ (shortestOutput ≤ length (now out)) × (longestRecord ≤ length (now block)) × (length (now report) ≡ length (now out)) ⌝ }
-    ensures { λ r. ⌜ RunSays (r .ending) (r .turns) (entryIn outerForm (Blocks·unread (now (block .exit)) (r .at) (r .have))) (now (report .exit)) ⌝ }
+    ensures { λ r. ⌜ RunSays unwrapChannels (r .ending) (r .turns) (entryIn outerForm (Blocks·unread (now (block .exit)) (r .at) (r .have))) (now (out .exit)) (now (report .exit)) ⌝ }
 {
     let mut m = tunnel::fresh();
     let mut count = 0u64;

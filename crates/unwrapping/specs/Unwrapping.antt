@@ -1,5 +1,5 @@
 -- The program `unwrap`: a file of outer packets, the packets that it writes, and its report.
-use Prim.Native.Nat.{ℕ, _+_, _%_, _^_, _<_}
+use Prim.Native.Nat.{ℕ, _+_}
 use mathlib.Core.Path.{_≡_}
 use mathlib.Core.Bool.{cond}
 use mathlib.Core.List.{List, [], _++_}
@@ -7,17 +7,16 @@ use lib.Dec.{eqb}
 use lib.ListN.{length, take, replicate}
 use Rattle.text.specs.Text.{text, Put}
 use Rattle.records.specs.declared.Form.the-variants.{Foreign, Counted}
-use Rattle.records.specs.Records.{markBytes, lengthBytes, markOf, Forms, bodyIn, entryIn, sizeOf, lastLine}
-use Rattle.records.specs.Transcripts.{Program, filled, nextIn, textIn}
-use Rattle.packets.specs.Packets.{longestPacket}
-use Rattle.reports.specs.Reports.{said, reportLine, heldLine}
+use Rattle.records.specs.Records.{markBytes, lengthBytes, markOf, Forms, bodyIn, lastLine}
+use Rattle.records.specs.Channels.{Channels}
+use Rattle.reports.specs.Reports.{following, said, reportLine, heldLine}
 use Rattle.tunnel.specs.declared.Numbers.{Numbers}
 use Rattle.tunnel.specs.declared.Values.{Values}
-use Rattle.tunnel.specs.Unwrap.{shortestOutput, freshNumbers, Reader, reader, partOf, unwrappedValues, Result, unwrapped}
+use Rattle.tunnel.specs.Unwrap.{shortestOutput, Reader, reader, partOf, unwrappedValues, Result, unwrapped}
 
 -- OP with an outer packet, of any length that two bytes tell
 abbrev pub outerForm : Forms
-outerForm mark = cond (eqb mark (markOf "OP")) Counted Foreign
+outerForm mark = cond (eqb mark (markOf "OP")) (Counted 0 65535) Foreign
 
 abbrev pub longestRecord : ℕ
 longestRecord = markBytes + lengthBytes + 65535
@@ -30,12 +29,6 @@ pub record State : Type 0 where
 
 abbrev pub state : Numbers → List ℕ → ℕ → State
 state numbers part count = record { reader = reader numbers part; count = count }
-
-unfoldable pub fresh : State
-fresh = state freshNumbers (replicate longestPacket 0) 0
-
-abbrev pub following : ℕ → ℕ
-following n = (n + 1) % 2 ^ 64
 
 -- ---- an outer packet: the call, with an output that is long enough
 
@@ -59,55 +52,22 @@ sayings v = said (v .number) (v .repeat) (v .gap) (v .lost)
 abbrev pub reportText : State → List ℕ → List ℕ
 reportText s outer = reportLine (text "OP") (following (s .count)) (sayings (unwrappedValues (call s outer .answer)))
 
--- the two share the room of an output
-abbrev pub roomFor : State → List ℕ → ℕ
-roomFor s outer = length (packetsText s outer) + length (reportText s outer)
+-- ---- the program: behind the last record it tells which part is held, and how the file ends
 
--- ---- the program, on either channel
-
-abbrev pub packetsProgram : Program State
-packetsProgram =
+abbrev pub unwrapChannels : Channels State
+unwrapChannels =
     record {
       forms = outerForm;
       next = λ s r. nextState s (bodyIn r);
       text = λ s r. packetsText s (bodyIn r);
-      cost = λ s r. roomFor s (bodyIn r);
+      report = λ s r. reportText s (bodyIn r);
       longest = shortestOutput;
       last = λ s e. [];
+      lastReport = λ s e. heldLine (length (partOf (s .reader))) ++ lastLine e;
     }
-
-abbrev pub reportProgram : Program State
-reportProgram =
-    record {
-      forms = outerForm;
-      next = λ s r. nextState s (bodyIn r);
-      text = λ s r. reportText s (bodyIn r);
-      cost = λ s r. roomFor s (bodyIn r);
-      longest = shortestOutput;
-      last = λ s e. heldLine (length (partOf (s .reader))) ++ lastLine e;
-    }
-
--- the part's memory has its length, and the count its 64 bits
-pub record Ready (s : State) : Type 0 where
-  pub memory : length (s .reader .bytes) ≡ longestPacket
-  pub counted : s .count < 2 ^ 64
 
 -- what an outer packet leaves
 pub record FedTo (s : State) (outer out : List ℕ) (to : ℕ) (report : List ℕ) (told : ℕ) (t : State) (out′ : List ℕ) (to′ : ℕ) (report′ : List ℕ) (told′ : ℕ) : Type 0 where
   pub left : t ≡ nextState s outer
   pub stores : Put (packetsText s outer) out to out′ to′
   pub tells : Put (reportText s outer) report told report′ told′
-
--- what the record at the start of xs leaves, if it is whole
-pub record TurnsTo (s : State) (xs : List ℕ) (at : ℕ) (out : List ℕ) (to : ℕ) (report : List ℕ) (told : ℕ) (t : State) (read : ℕ) (out′ : List ℕ) (to′ : ℕ) (report′ : List ℕ) (told′ : ℕ) : Type 0 where
-  pub left : t ≡ nextIn packetsProgram s xs
-  pub place : read ≡ at + sizeOf (entryIn outerForm xs)
-  pub stores : Put (textIn packetsProgram s xs) out to out′ to′
-  pub tells : Put (textIn reportProgram s xs) report told report′ told′
-
--- what the records at the start of a block leave, as many as the output takes
-pub record FillsTo (s : State) (block out report : List ℕ) (t : State) (read : ℕ) (out′ : List ℕ) (wrote : ℕ) (report′ : List ℕ) (told : ℕ) : Type 0 where
-  pub left : t ≡ filled packetsProgram (length out) s block .state
-  pub place : read ≡ filled packetsProgram (length out) s block .read
-  pub stores : Put (filled packetsProgram (length out) s block .text) out 0 out′ wrote
-  pub tells : Put (filled reportProgram (length out) s block .text) report 0 report′ told

@@ -10,9 +10,10 @@ ghost use mathlib.Core.Path.{_≡_};
 ghost use Prim.Native.Nat.{_+_, _≤_};
 ghost use lib.ListN.{length, drop};
 ghost use Rattle.records.specs.Records.{entryIn};
+ghost use Rattle.records.specs.Channels.{Turns, Fills};
 ghost use Rattle.reports.specs.Reports.{longestReport};
 ghost use Rattle.tunnel.specs.Unwrap.{shortestOutput};
-ghost use Rattle.unwrapping.specs.Unwrapping.{outerForm, state, following, FedTo, TurnsTo, FillsTo};
+ghost use Rattle.unwrapping.specs.Unwrapping.{outerForm, state, unwrapChannels, FedTo};
 
 // After some records: the reader's numbers, how many records were read, the next place of the file, of the output, and of the report.
 pub struct Filled {
@@ -36,7 +37,10 @@ fn form_of(mark: u16) -> Form
     ensures { λ r. ⌜ r ≡ outerForm mark ⌝ }
 {
     match mark {
-        0x4F50 => Form::Counted,
+        0x4F50 => Form::Counted {
+            least: 0,
+            most: 65535,
+        },
         _ => Form::Foreign,
     }
 }
@@ -47,16 +51,6 @@ pub fn entry_at(file: &[u8], at: usize) -> Entry
 {
     let form = form_of(records::mark_at(file, at));
     records::entry_at(file, at, form)
-}
-
-// The number of the next record.
-fn next_count(n: u64) -> u64
-    ensures { λ r. ⌜ r ≡ following n ⌝ }
-{
-    if n == u64::MAX {
-        return 0;
-    }
-    n + 1
 }
 
 // An outer packet: the packets that it finishes, and its line of the report.
@@ -77,7 +71,7 @@ fn feed(
     let after = fed.numbers;
     let answer = fed.answer;
     let v = tunnel::values_of(answer);
-    let n = next_count(count);
+    let n = reports::next_count(count);
     let line = reports::put_report(b"OP", n, v.number, v.repeat, v.gap, v.lost, report, told);
     Told {
         numbers: after,
@@ -100,7 +94,7 @@ fn turn(
     told: usize,
 ) -> Filled
     requires { ⌜ (at ≤ length (now file)) × (to + shortestOutput ≤ length (now out)) × (told + longestReport ≤ length (now report)) ⌝ }
-    ensures { λ r. ⌜ TurnsTo (state numbers (now (part .entry)) count) (drop at (now (file .entry))) at (now (out .entry)) to (now (report .entry)) told (state (r .numbers) (now (part .exit)) (r .count)) (r .read) (now (out .exit)) (r .wrote) (now (report .exit)) (r .told) ⌝ }
+    ensures { λ r. ⌜ Turns unwrapChannels (state numbers (now (part .entry)) count) (drop at (now (file .entry))) at (now (out .entry)) to (now (report .entry)) told (state (r .numbers) (now (part .exit)) (r .count)) (r .read) (now (out .exit)) (r .wrote) (now (report .exit)) (r .told) ⌝ }
 {
     match entry_at(file, at) {
         Entry::Whole(size) => {
@@ -154,7 +148,7 @@ pub fn fill(
     report: &mut [u8],
 ) -> Filled
     requires { ⌜ length (now out) ≤ length (now report) ⌝ }
-    ensures { λ r. ⌜ FillsTo (state numbers (now (part .entry)) count) (now (file .entry)) (now (out .entry)) (now (report .entry)) (state (r .numbers) (now (part .exit)) (r .count)) (r .read) (now (out .exit)) (r .wrote) (now (report .exit)) (r .told) ⌝ }
+    ensures { λ r. ⌜ Fills unwrapChannels (state numbers (now (part .entry)) count) (now (file .entry)) (now (out .entry)) (now (report .entry)) (state (r .numbers) (now (part .exit)) (r .count)) (r .read) (now (out .exit)) (r .wrote) (now (report .exit)) (r .told) ⌝ }
 {
     let mut m = numbers;
     let mut n = count;

@@ -12,8 +12,8 @@ enum-told c = search needs
 enum-told-2 : tie.Need-enum-told-2
 enum-told-2 c = search needs
 
-write-out-requires : tie.Need-write-out-requires
-write-out-requires c κs = search needs
+write-both-requires : tie.Need-write-both-requires
+write-both-requires c κs = search needs
 
 end-number-requires : tie.Need-end-number-requires
 end-number-requires c κs = search needs
@@ -35,7 +35,7 @@ returns c = concludes _ _ _ (c .enum-told .given .1) refl
 
 returns-2 : tie.Need-returns-2
 returns-2 c =
-    concludes _ _ _ (c .before .before .before .enum-told2 .given .1) (rw (c .ended .ensures, c .before .end-number .ensures) (ends-writing (c .before .before .write-out .result) _))
+    concludes _ _ _ (c .before .before .before .enum-told2 .given .1) (rw (c .ended .ensures, c .before .end-number .ensures) (ends-writing (c .before .before .write-both .result) _))
 
 returns-3 : tie.Need-returns-3
 returns-3 c = concludes _ _ _ (c .enum-told3 .given .1) refl
@@ -52,7 +52,7 @@ conclude-spec =
     (tie.spec
     enum-told
     enum-told-2
-    write-out-requires
+    write-both-requires
     end-number-requires
     ended-requires
     enum-told-3

@@ -16,6 +16,9 @@ slice-reshare-prefix-conclude c = let s = c .before .before .before .before .bef
 slice-aggregate-conclude : tie.Need-slice-aggregate-conclude
 slice-aggregate-conclude c = sym (length-take-le _ _ (slice-reshare-prefix-conclude (c .before)))
 
+slice-aggregate-conclude-2 : tie.Need-slice-aggregate-conclude-2
+slice-aggregate-conclude-2 c = search needs
+
 conclude-requires : tie.Need-conclude-requires
 conclude-requires c κs = search needs
 
@@ -24,8 +27,8 @@ same-length c = search needs
 
 returns : tie.Need-returns
 returns c =
-    let p = c .before .before .before .before in
-    let s = c .before .before .before .before .before .before .before in
+    let p = c .before .before .before .before .before in
+    let s = p .before .before .before in
     settles (s .args .step) (s .args .entry) _ _ (c .conclude .ensures) (last-front (s .args .entry) (now (s .args .out)) _ _ (p .put-last .ensures) (s .pre))
 
 pub settle-spec : {M : Type 1} → statement M
@@ -35,6 +38,7 @@ settle-spec =
     put-last-requires
     slice-reshare-prefix-conclude
     slice-aggregate-conclude
+    slice-aggregate-conclude-2
     conclude-requires
     same-length
     returns)

@@ -4,7 +4,7 @@ use native.Mathlib.Omega.{arith}
 use denote.Ref.{now}
 use lib.ListN.{drop}
 use Rattle.lukasembo.specs.Steps.{packedNext}
-use Rattle.lukasembo.proofs.Laws.{packet-short}
+use Rattle.store.proofs.Laws.{packet-means}
 use borrow.Author.Needs.{needs}
 use Rattle.lukasembo.proofs.lukasembo_next_packet.Statement.{statement}
 use Rattle.lukasembo.proofs.lukasembo_next_packet.Tie as tie
@@ -21,7 +21,7 @@ enum-known-n c = search needs
 mul-result : tie.Need-mul-result
 mul-result c =
     let a = c .before .before .before .before .before .args in
-    omega (arith, packet-short (drop (a .at) (now (a .store))) _ (sym (c .before .before .before .next-at .ensures) ∙ c .before .n .given .1))
+    omega (arith, packet-means (drop (a .at) (now (a .store))) _ (sym (c .before .before .before .next-at .ensures) ∙ c .before .n .given .1) .1)
 
 enum-told-2 : tie.Need-enum-told-2
 enum-told-2 c = search needs

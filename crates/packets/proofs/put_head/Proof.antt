@@ -1,4 +1,5 @@
--- `packets::put_head` meets its contract: its four stores are the head. Assumes nothing.
+-- `packets::put_head` meets its contract: its mark and its length are the head. Assumes nothing.
+use mathlib.Core.Path.{_∙_}
 use native.Mathlib.Omega.{arith}
 use lib.ListN.{length-set}
 use denote.Ref.{now}
@@ -6,9 +7,6 @@ use Rattle.packets.proofs.Laws.{head-stored}
 use borrow.Author.Needs.{needs}
 use Rattle.packets.proofs.put_head.Statement.{statement}
 use Rattle.packets.proofs.put_head.Tie as tie
-
-cast-word : tie.Need-cast-word
-cast-word c = search needs
 
 slice-write-store : tie.Need-slice-write-store
 slice-write-store c = search needs
@@ -19,45 +17,30 @@ add-store c = search needs
 slice-write-store-2 : tie.Need-slice-write-store-2
 slice-write-store-2 c = simp length-set (omega arith)
 
-high-of-requires : tie.Need-high-of-requires
-high-of-requires c κs = search needs
+cast-put-word : tie.Need-cast-put-word
+cast-put-word c = search needs
 
-add-store-2 : tie.Need-add-store-2
-add-store-2 c = search needs
+add-put-word : tie.Need-add-put-word
+add-put-word c = search needs
 
-slice-write-store-3 : tie.Need-slice-write-store-3
-slice-write-store-3 c = simp length-set (omega arith)
-
-low-of-requires : tie.Need-low-of-requires
-low-of-requires c κs = search needs
-
-add-store-3 : tie.Need-add-store-3
-add-store-3 c = search needs
-
-slice-write-store-4 : tie.Need-slice-write-store-4
-slice-write-store-4 c = simp length-set (omega arith)
+put-word-requires : tie.Need-put-word-requires
+put-word-requires c κs = simp length-set (omega arith)
 
 same-length : tie.Need-same-length
-same-length c = search needs
+same-length c = c .before .before .put-word .kept .1 .0 ∙ simp length-set
 
 returns : tie.Need-returns
-returns c =
-    let a = c .before .before .before .args in
-    head-stored (now (a .store)) (a .at) (a .n) _ _ (c .before .high-of .ensures) (c .low-of .ensures)
+returns c = let a = c .before .before .before .before .before .args in head-stored (now (a .store)) (a .at) (a .n) _ (c .before .before .put-word .ensures)
 
 pub put-head-spec : {M : Type 1} → statement M
 put-head-spec =
     tie.close
     (tie.spec
-    cast-word
     slice-write-store
     add-store
     slice-write-store-2
-    high-of-requires
-    add-store-2
-    slice-write-store-3
-    low-of-requires
-    add-store-3
-    slice-write-store-4
+    cast-put-word
+    add-put-word
+    put-word-requires
     same-length
     returns)

@@ -20,11 +20,11 @@ enum-told c = search needs
 enum-known-form : tie.Need-enum-known-form
 enum-known-form c = search needs
 
-add-t12 : tie.Need-add-t12
-add-t12 c = search needs
+add-t14 : tie.Need-add-t14
+add-t14 c = search needs
 
-enum-told-2 : tie.Need-enum-told-2
-enum-told-2 c = search needs
+enum-known-form-2 : tie.Need-enum-known-form-2
+enum-known-form-2 c = search needs
 
 counted-at-requires : tie.Need-counted-at-requires
 counted-at-requires c κs = search needs
@@ -39,7 +39,7 @@ returns-5 : tie.Need-returns-5
 returns-5 c = let a = c .before .before .before .before .before .before .before .args in as-whole (now (a .file)) (a .at) (a .form) (c .before .before .before .before .before .if1 .left) (c .before .before .before .before .if2 .left) _ (c .before .before .form .given .1) (c .if3 .left)
 
 returns-6 : tie.Need-returns-6
-returns-6 c = let a = c .before .before .before .before .before .before .args in as-counted (now (a .file)) (a .at) (a .form) (c .before .before .before .before .if1 .left) (c .before .before .before .if2 .left) (c .before .enum-told2 .given .1) _ (c .counted-at .ensures)
+returns-6 c = let a = c .before .before .before .before .before .before .before .args in as-counted (now (a .file)) (a .at) (a .form) (c .before .before .before .before .before .if1 .left) (c .before .before .before .before .if2 .left) _ _ (c .before .before .form2 .given .1) _ (c .counted-at .ensures)
 
 pub entry-at-spec : {M : Type 1} → statement M
 entry-at-spec =
@@ -50,8 +50,8 @@ entry-at-spec =
     returns-2
     enum-told
     enum-known-form
-    add-t12
-    enum-told-2
+    add-t14
+    enum-known-form-2
     counted-at-requires
     returns-3
     returns-4

@@ -5,8 +5,6 @@ use Prim.Native.Nat.{ℕ, _+_, _≤_}
 use denote.Ref.{now}
 use lib.ListN.{length}
 use lib.Seq.{length-take-le}
-use Rattle.octets.specs.Bits.{Bytes}
-use Rattle.octets.proofs.Laws.{bytes-all}
 use Rattle.desk.specs.Desks.{desk}
 use Rattle.desk.specs.Calls.{State, state}
 use Rattle.blocks.specs.Blocks.{unread}
@@ -37,9 +35,6 @@ module _ (c : tie.After-fill) where
 
   abbrev room : ℕ
   room = length (now (s .args .out))
-
-  bytes : Bytes block
-  bytes = bytes-all block (λ i. omega (arith, c .before .before .before .before .before .before .before .before .slice-known4 .given i))
 
   inside : c .fill .result .wrote ≤ length (c .fill .last .1 .1 .1 .1 .1 .0)
   inside = filled-inside logProgram room from after xs (now (s .args .out)) _ _ _ (c .fill .ensures) lines-fit (omega arith)
@@ -88,7 +83,7 @@ proceed-requires c κs =
     let e = c .before .before .before in
     let k = known (e .before .before) in
     let next = s k .args .at + k .fill .result .read in
-    ((omega (arith, most k, s k .pre .1 .0), s k .pre .1 .1), room-for-more logForm (block k) next (s k .args .have) (most k) (s k .pre .1 .1) _ (e .entry-at .ensures) longestRecord log-within (bytes k) (s k .pre .1 .2))
+    ((omega (arith, most k, s k .pre .1 .0), s k .pre .1 .1), room-for-more logForm (block k) next (s k .args .have) (most k) (s k .pre .1 .1) _ (e .entry-at .ensures) longestRecord log-within (s k .pre .1 .2))
 
 same-length : tie.Need-same-length
 same-length c = search needs

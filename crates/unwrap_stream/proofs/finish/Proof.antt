@@ -10,9 +10,9 @@ use lib.Seq.{length-take-le}
 use Rattle.records.specs.declared.Entry.{Entry}
 use Rattle.records.specs.Records.{longestLast}
 use Rattle.blocks.specs.Blocks.{Concludes}
+use Rattle.blocks.specs.Channels.{LastSaid}
 use Rattle.blocks.proofs.Laws.{stands-unread}
-use Rattle.unwrapping.specs.Unwrapping.{outerForm, state}
-use Rattle.unwrap_stream.specs.Streams.{LastSaid}
+use Rattle.unwrapping.specs.Unwrapping.{outerForm, state, unwrapChannels}
 use Rattle.unwrap_stream.proofs.Laws.{line-inside, rest-room, end-inside, last-said}
 use borrow.Author.Needs.{needs}
 use Rattle.unwrap_stream.proofs.finish.Statement.{statement}
@@ -79,6 +79,9 @@ slice-reshare-prefix-conclude c = end-in (c .before .before)
 slice-aggregate-conclude : tie.Need-slice-aggregate-conclude
 slice-aggregate-conclude c = sym (length-take-le _ _ (end-in (c .before .before .before)))
 
+slice-aggregate-conclude-2 : tie.Need-slice-aggregate-conclude-2
+slice-aggregate-conclude-2 c = search needs
+
 conclude-requires : tie.Need-conclude-requires
 conclude-requires c κs = search needs
 
@@ -86,14 +89,14 @@ same-length : tie.Need-same-length
 same-length c = search needs
 
 returns : tie.Need-returns
-returns c =
-    let l = c .before .before .before .before in
-    let h = c .before .before .before .before .before .before .before .before in
+returns c out =
+    let l = c .before .before .before .before .before in
+    let h = l .before .before .before .before in
     let b = s h in
     let stands = stands-unread outerForm (now (b .args .block)) (b .args .at) (b .args .have) (b .pre .0) (b .pre .1) _ (h .before .before .before .entry-at .ensures) in
-    let said = last-said (held h) (small h) (now (b .args .report)) _ _ (h .put-held .ensures) (b .pre .2) _ _ _ (l .put-last .ensures) (b .args .numbers) (now (b .args .part)) (h .before .before .held .ensures) in (
+    let said = last-said (held h) (small h) (now (b .args .report)) _ _ (h .put-held .ensures) (b .pre .2) _ _ _ (l .put-last .ensures) (b .args .numbers) (now (b .args .part)) (h .before .before .held .ensures) out in (
       subst (λ (e : Entry). Concludes (b .args .step) e (c .conclude .result)) stands (c .conclude .ensures),
-      subst (λ (e : Entry). LastSaid (state (b .args .numbers) (now (b .args .part)) 0) e (after l)) stands said,
+      subst (λ (e : Entry). LastSaid unwrapChannels (state (b .args .numbers) (now (b .args .part)) 0) e out (after l)) stands said,
       refl,
       refl,
       refl,
@@ -114,6 +117,7 @@ finish-spec =
     add-end
     slice-reshare-prefix-conclude
     slice-aggregate-conclude
+    slice-aggregate-conclude-2
     conclude-requires
     same-length
     returns)

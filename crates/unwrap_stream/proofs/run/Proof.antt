@@ -6,12 +6,13 @@ use Prim.Native.Nat.{ℕ, _+_, _-_, _≤_}
 use native.Mathlib.Omega.{arith}
 use denote.Ref.{now}
 use lib.ListN.{length}
+use Rattle.records.specs.Channels.{outputOf}
 use Rattle.blocks.specs.declared.Step.the-variants.{Next}
 use Rattle.blocks.specs.declared.Unread.{Unread}
 use Rattle.blocks.specs.Blocks.{mostTurns, stopsAt}
 use Rattle.blocks.proofs.Laws.{Keeps, turn-keeps}
-use Rattle.unwrapping.specs.Unwrapping.{outerForm, State, state, packetsProgram}
-use Rattle.unwrap_stream.proofs.Laws.{run-says}
+use Rattle.blocks.proofs.Channels.{run-says}
+use Rattle.unwrapping.specs.Unwrapping.{outerForm, State, state, unwrapChannels}
 use borrow.Author.Needs.{needs}
 use Rattle.unwrap_stream.proofs.run.Statement.{statement}
 use Rattle.unwrap_stream.proofs.run.Tie as tie
@@ -44,7 +45,7 @@ module _ (c : tie.After-turn Inv-loop μ-loop) where
 
   keeps : Keeps (λ (t : State). Unit {0}) outerForm (state (c .turn .result .numbers) (c .turn .last .1 .0) (c .turn .result .count)) block u
   keeps =
-      turn-keeps packetsProgram (λ t. Unit {0}) (λ t r y. tt) (length (h .loop .out)) (state (h .loop .m) (h .loop .part) (h .loop .count)) (h .loop .block) (h .loop .at) (h .loop .have) _ _ _ _ _ u (c .turn .ensures .packets) tt (h .loop .inv .0) (h .loop .inv .1)
+      turn-keeps (outputOf unwrapChannels) (λ t. Unit {0}) (λ t r y. tt) (length (h .loop .out)) (state (h .loop .m) (h .loop .part) (h .loop .count)) (h .loop .block) (h .loop .at) (h .loop .have) _ _ _ _ _ u (c .turn .ensures .output) tt (h .loop .inv .0) (h .loop .inv .1)
 
   after : Inv-loop (now (s .args .part)) (now (s .args .block)) (now (s .args .out)) (now (s .args .report)) 0 0 0 (h .loop .m) 0 0 0 0 (c .turn .last .1 .0) block (c .turn .last .1 .1 .1 .1 .1 .1 .0) (c .turn .last .1 .1 .1 .1 .1 .1 .1 .0) (c .turn .result .numbers) (c .turn .result .count) (u .at) (u .have) (h .loop .turns + 1)
   after = (
@@ -87,7 +88,7 @@ returns : tie.Need-returns Inv-loop μ-loop
 returns c =
     let t = c .before .before .before .before .before .before .before .before .before .before .before .before .before .before .before .before in
     let f = c .before .before .finish in
-    run-says (u t .step) (f .result .ending) _ _ (block t) (u t .at) _ (u t .have) _ (f .last .1 .1 .1 .1 .1 .1 .1 .0) (state (t .turn .result .numbers) (t .turn .last .1 .0) 0) (f .ensures) (keeps t .over)
+    run-says unwrapChannels (u t .step) (f .result .ending) _ _ (block t) (u t .at) _ (u t .have) _ _ (f .last .1 .1 .1 .1 .1 .1 .1 .0) (state (t .turn .result .numbers) (t .turn .last .1 .0) 0) (f .ensures _) (keeps t .over)
     (λ e. absurd (true≢false (sym (c .before .before .before .before .before .before .if1 .taken) ∙ c .before .before .before .before .before .before .before .stops .ensures ∙ ap stopsAt e)))
 
 loop-less : tie.Need-loop-less Inv-loop μ-loop
@@ -112,7 +113,7 @@ returns-2 : tie.Need-returns-2 Inv-loop μ-loop
 returns-2 c =
     let l = c .before .before .before .before .before .before .before in
     let f = c .before .before .finish2 in
-    run-says Next (f .result .ending) _ _ (l .loop .block) (l .loop .at) _ (l .loop .have) _ (f .last .1 .1 .1 .1 .1 .1 .1 .0) (state (l .loop .m) (l .loop .part) 0) (f .ensures) (λ e. absurd (true≢false (sym e)))
+    run-says unwrapChannels Next (f .result .ending) _ _ (l .loop .block) (l .loop .at) _ (l .loop .have) _ _ (f .last .1 .1 .1 .1 .1 .1 .1 .0) (state (l .loop .m) (l .loop .part) 0) (f .ensures _) (λ e. absurd (true≢false (sym e)))
     (λ e. omega (arith, c .before .before .before .before .before .before .loop-test .left, l .loop .inv .2))
 
 pub run-spec : {M : Type 1} → statement M

@@ -6,11 +6,11 @@ use native.Mathlib.Omega.{arith}
 use denote.Ref.{now}
 use lib.ListN.{length}
 use lib.Seq.{length-take-le}
-use Rattle.octets.specs.Bits.{Bytes}
-use Rattle.octets.proofs.Laws.{bytes-all}
 use Rattle.blocks.proofs.Laws.{stands-unread, room-for-more}
-use Rattle.unwrapping.specs.Unwrapping.{outerForm, longestRecord, State, state}
-use Rattle.unwrap_stream.proofs.Laws.{outer-within, read-inside, wrote-inside, told-inside, both-say}
+use Rattle.blocks.proofs.Channels.{read-inside, wrote-inside, told-inside, both-say}
+use Rattle.unwrapping.specs.Unwrapping.{outerForm, longestRecord, unwrapChannels}
+use Rattle.unwrapping.proofs.Laws.{unwrap-room}
+use Rattle.unwrap_stream.proofs.Laws.{outer-within}
 use borrow.Author.Needs.{needs}
 use Rattle.unwrap_stream.proofs.turn.Statement.{statement}
 use Rattle.unwrap_stream.proofs.turn.Tie as tie
@@ -20,26 +20,17 @@ module _ (c : tie.After-fill) where
   abbrev s : tie.Start
   s = c .before .before .before .before .before .before .before .before .before
 
-  abbrev from : State
-  from = state (s .args .numbers) (now (s .args .part)) (s .args .count)
-
-  abbrev after : State
-  after = state (c .fill .result .numbers) (c .fill .last .1 .0) (c .fill .result .count)
-
   abbrev block : List ℕ
   block = now (s .args .block)
 
-  bytes : Bytes block
-  bytes = bytes-all block (λ i. omega (arith, c .before .before .before .before .before .before .before .before .slice-known .given i))
-
   most : s .args .at + c .fill .result .read ≤ s .args .have
-  most = read-inside from block _ _ (now (s .args .out)) (now (s .args .report)) after _ _ _ _ _ (c .fill .ensures) (s .pre .0) (s .pre .1)
+  most = read-inside unwrapChannels _ block _ _ _ _ _ _ _ _ _ _ (c .fill .ensures) (s .pre .0) (s .pre .1)
 
   wrote-in : c .fill .result .wrote ≤ length (c .fill .last .1 .1 .1 .1 .0)
-  wrote-in = wrote-inside from block (s .args .at) (s .args .have) (now (s .args .out)) (now (s .args .report)) after _ _ _ _ _ (c .fill .ensures)
+  wrote-in = wrote-inside unwrapChannels _ block (s .args .at) (s .args .have) _ _ _ _ _ _ _ _ (c .fill .ensures) unwrap-room
 
   told-in : c .fill .result .told ≤ length (c .fill .last .1 .1 .1 .1 .1 .0)
-  told-in = told-inside from block (s .args .at) (s .args .have) (now (s .args .out)) (now (s .args .report)) after _ _ _ _ _ (c .fill .ensures) (s .pre .3)
+  told-in = told-inside unwrapChannels _ block (s .args .at) (s .args .have) _ _ _ _ _ _ _ _ (c .fill .ensures) unwrap-room (s .pre .3)
 
 abbrev known : tie.After-struct-known → tie.After-fill
 known c = c .before .before .before .before .before .before
@@ -68,27 +59,27 @@ slice-aggregate-entry-at c = sym (length-take-le _ _ (s (known (c .before)) .pre
 entry-at-requires : tie.Need-entry-at-requires
 entry-at-requires c κs = search needs
 
-slice-reshare-prefix-send : tie.Need-slice-reshare-prefix-send
-slice-reshare-prefix-send c = wrote-in (known (c .before .before))
+slice-reshare-prefix-write-both : tie.Need-slice-reshare-prefix-write-both
+slice-reshare-prefix-write-both c = wrote-in (known (c .before .before))
 
-slice-aggregate-send : tie.Need-slice-aggregate-send
-slice-aggregate-send c = sym (length-take-le _ _ (wrote-in (known (c .before .before .before))))
+slice-aggregate-write-both : tie.Need-slice-aggregate-write-both
+slice-aggregate-write-both c = sym (length-take-le _ _ (wrote-in (known (c .before .before .before))))
 
-slice-reshare-prefix-send-2 : tie.Need-slice-reshare-prefix-send-2
-slice-reshare-prefix-send-2 c = told-in (known (c .before .before .before))
+slice-reshare-prefix-write-both-2 : tie.Need-slice-reshare-prefix-write-both-2
+slice-reshare-prefix-write-both-2 c = told-in (known (c .before .before .before))
 
-slice-aggregate-send-2 : tie.Need-slice-aggregate-send-2
-slice-aggregate-send-2 c = sym (length-take-le _ _ (told-in (known (c .before .before .before .before))))
+slice-aggregate-write-both-2 : tie.Need-slice-aggregate-write-both-2
+slice-aggregate-write-both-2 c = sym (length-take-le _ _ (told-in (known (c .before .before .before .before))))
 
-send-requires : tie.Need-send-requires
-send-requires c κs = search needs
+write-both-requires : tie.Need-write-both-requires
+write-both-requires c κs = search needs
 
 proceed-requires : tie.Need-proceed-requires
 proceed-requires c κs =
     let e = c .before .before .before .before in
     let k = known (e .before .before) in
     let next = s k .args .at + k .fill .result .read in
-    ((omega (arith, most k, s k .pre .0), s k .pre .1), room-for-more outerForm (block k) next (s k .args .have) (most k) (s k .pre .1) _ (e .entry-at .ensures) longestRecord outer-within (bytes k) (s k .pre .2))
+    ((omega (arith, most k, s k .pre .0), s k .pre .1), room-for-more outerForm (block k) next (s k .args .have) (most k) (s k .pre .1) _ (e .entry-at .ensures) longestRecord outer-within (s k .pre .2))
 
 same-length : tie.Need-same-length
 same-length c = search needs
@@ -105,7 +96,7 @@ returns c =
     let k = known (e .before .before) in
     let next = s k .args .at + k .fill .result .read in
     let stands = stands-unread outerForm (block k) next (s k .args .have) (most k) (s k .pre .1) _ (e .entry-at .ensures) in
-    both-say (from k) (block k) (s k .args .at) (s k .args .have) (now (s k .args .out)) (now (s k .args .report)) (after k) _ _ _ _ _ (k .fill .ensures) _ stands (c .before .before .before .before .send .result) _ _ (c .before .before .proceed .ensures)
+    both-say unwrapChannels _ (block k) (s k .args .at) (s k .args .have) _ _ _ _ _ _ _ _ (k .fill .ensures) _ stands (c .before .before .before .before .write-both .result) _ _ (c .before .before .proceed .ensures)
 
 pub turn-spec : {M : Type 1} → statement M
 turn-spec =
@@ -119,11 +110,11 @@ turn-spec =
     slice-reshare-prefix-entry-at
     slice-aggregate-entry-at
     entry-at-requires
-    slice-reshare-prefix-send
-    slice-aggregate-send
-    slice-reshare-prefix-send-2
-    slice-aggregate-send-2
-    send-requires
+    slice-reshare-prefix-write-both
+    slice-aggregate-write-both
+    slice-reshare-prefix-write-both-2
+    slice-aggregate-write-both-2
+    write-both-requires
     proceed-requires
     same-length
     same-length-2

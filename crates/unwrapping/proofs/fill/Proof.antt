@@ -4,22 +4,22 @@ use mathlib.Core.Path.{_∙_}
 use Prim.Native.Nat.{_-_}
 use native.Mathlib.Omega.{arith}
 use lib.ListN.{length}
-use denote.Ref.{now}
-use Rattle.unwrapping.specs.Unwrapping.{state}
-use Rattle.unwrapping.proofs.Laws.{Doing, doing-start, doing-full, doing-stops, doing-less, doing-more}
+use Rattle.records.proofs.Channels.{Doing, doing-start, doing-full, doing-stops, doing-less, doing-more}
+use Rattle.unwrapping.specs.Unwrapping.{state, unwrapChannels}
+use Rattle.unwrapping.proofs.Laws.{same-state, unwrap-room}
 use borrow.Author.Needs.{needs}
 use Rattle.unwrapping.proofs.fill.Statement.{statement}
 use Rattle.unwrapping.proofs.fill.Tie as tie
 
 abbrev Inv-loop : tie.InvT-loop
 Inv-loop part₀ count file out₀ report₀ m₀ n₀ at₀ to₀ told₀ part out report m n at to told =
-    Doing (state m₀ part₀ n₀) file out₀ report₀ (state m part n) out report at to told
+    Doing unwrapChannels (state m₀ part₀ n₀) file out₀ report₀ (state m part n) out report at to told
 
 abbrev μ-loop : tie.MeasureT-loop
 μ-loop part₀ count file out₀ report₀ m₀ n₀ at₀ to₀ told₀ part out report m n at to told = length file - at
 
 loop-holds : tie.Need-loop-holds Inv-loop μ-loop
-loop-holds c = let a = c .before .before .before .args in doing-start (state (a .numbers) (now (a .part)) (a .count)) (now (a .file)) (now (a .out)) (now (a .report))
+loop-holds c = doing-start unwrapChannels _ _ _ _
 
 add-loop : tie.Need-add-loop Inv-loop μ-loop
 add-loop c = let l = c .loop in omega (arith, l .inv .room)
@@ -29,9 +29,7 @@ sub-loop c = let l = c .loop in omega (arith, l .inv .room)
 
 turn-requires : tie.Need-turn-requires Inv-loop μ-loop
 turn-requires c κs =
-    let a = c .before .before .before .before .before .before .before .before .args in
-    let l = c .before .before .before .before .loop in
-    let d = l .inv in
+    let d = c .before .before .before .before .loop .inv in
     (d .inside, omega (arith, d .room, c .before .before .before .loop-test .taken), omega (arith, d .room, d .same-out, d .same-report, c .before .before .before .loop-test .taken, c .before .before .before .before .before .before .before .before .pre))
 
 idle-requires : tie.Need-idle-requires Inv-loop μ-loop
@@ -45,21 +43,20 @@ same-length-2 c = c .before .before .before .before .before .before .before .bef
 
 returns : tie.Need-returns Inv-loop μ-loop
 returns c =
-    let a = c .before .before .before .before .before .before .before .before .before .before .before .before .before .before .before .before .before .args in
     let l = c .before .before .before .before .before .before .before .before .before .before .before .before .before .loop in
-    doing-stops (state (a .numbers) (now (a .part)) (a .count)) (now (a .file)) (now (a .out)) (now (a .report)) (state (l .m) (l .part) (l .n)) (l .out) (l .report) (l .at) (l .to) (l .told) (l .inv) _ _ _ _ _ _ (c .before .before .before .before .before .before .before .before .turn .ensures) (c .before .if1 .taken) _ _ _ _ _ (c .idle .ensures)
+    let t = c .before .before .before .before .before .before .before .before .turn in
+    let i = c .idle .ensures in
+    doing-stops unwrapChannels _ _ _ _ _ _ _ _ _ _ (l .inv) _ _ _ _ _ _ (t .ensures) (c .before .if1 .taken) _ _ _ _ (same-state _ (i .0) (i .1)) (i .2) (i .3) (i .4)
 
 loop-less : tie.Need-loop-less Inv-loop μ-loop
 loop-less c =
-    let a = c .before .before .before .before .before .before .before .before .before .before .before .before .before .before .before .before .args in
     let l = c .before .before .before .before .before .before .before .before .before .before .before .before .loop in
-    doing-less (state (a .numbers) (now (a .part)) (a .count)) (now (a .file)) (now (a .out)) (now (a .report)) (state (l .m) (l .part) (l .n)) (l .out) (l .report) (l .at) (l .to) (l .told) (l .inv) _ _ _ _ _ _ (c .before .before .before .before .before .before .before .turn .ensures) (c .if1 .left)
+    doing-less unwrapChannels _ _ _ _ _ _ _ _ _ _ (l .inv) _ _ _ _ _ _ (c .before .before .before .before .before .before .before .turn .ensures) (c .if1 .left)
 
 loop-again : tie.Need-loop-again Inv-loop μ-loop
 loop-again c =
-    let a = c .before .before .before .before .before .before .before .before .before .before .before .before .before .before .before .before .args in
     let l = c .before .before .before .before .before .before .before .before .before .before .before .before .loop in
-    doing-more (state (a .numbers) (now (a .part)) (a .count)) (now (a .file)) (now (a .out)) (now (a .report)) (state (l .m) (l .part) (l .n)) (l .out) (l .report) (l .at) (l .to) (l .told) (l .inv) _ _ _ _ _ _ (c .before .before .before .before .before .before .before .turn .ensures) (omega (arith, c .before .before .before .before .before .before .before .before .before .before .before .loop-test .taken, l .inv .room)) (c .if1 .left)
+    doing-more unwrapChannels _ _ _ _ _ _ _ _ _ _ (l .inv) _ _ _ _ _ _ (c .before .before .before .before .before .before .before .turn .ensures) unwrap-room (omega (arith, c .before .before .before .before .before .before .before .before .before .before .before .loop-test .taken, l .inv .room)) (c .if1 .left)
 
 idle-requires-2 : tie.Need-idle-requires-2 Inv-loop μ-loop
 idle-requires-2 c κs = search needs
@@ -72,9 +69,9 @@ same-length-4 c = c .before .before .loop .inv .same-report
 
 returns-2 : tie.Need-returns-2 Inv-loop μ-loop
 returns-2 c =
-    let a = c .before .before .before .before .before .before .args in
     let l = c .before .before .loop in
-    doing-full (state (a .numbers) (now (a .part)) (a .count)) (now (a .file)) (now (a .out)) (now (a .report)) (state (l .m) (l .part) (l .n)) (l .out) (l .report) (l .at) (l .to) (l .told) (l .inv) (c .before .loop-test .left) _ _ _ _ _ (c .idle2 .ensures)
+    let i = c .idle2 .ensures in
+    doing-full unwrapChannels _ _ _ _ _ _ _ _ _ _ (l .inv) (c .before .loop-test .left) _ _ _ _ (same-state _ (i .0) (i .1)) (i .2) (i .3) (i .4)
 
 pub fill-spec : {M : Type 1} → statement M
 fill-spec =

@@ -1,0 +1,4 @@
+pub mod Words
+pub mod Outers
+pub mod Calls
+pub mod Laws

@@ -1,0 +1,2 @@
+pub mod Wrapping
+pub mod Words
