@@ -10,9 +10,20 @@ here = os.path.dirname(os.path.dirname(os.path.abspath(__file__)))
 rounds, run = int(sys.argv[1]), sys.argv[2:]
 made = here + "/target/c/"
 os.sched_setaffinity(0, {min(os.sched_getaffinity(0))})
-sides = {name: {"ours": made + name, "plain": made + "plain" + name} for name in ("log", "unwrap", "wrap")}
-makers = {"log": ("makelog", "segments"), "unwrap": ("maketunnel", "packets"), "wrap": ("makewrap", "packets")}
+makers = {"log": ("makelog", "segments"), "unwrap": ("maketunnel", "packets"), "wrap": ("makewrap", "packets"), "guide": ("makeguide", "sections")}
+sides = {name: {"ours": made + name, "plain": made + "plain" + name} for name in makers}
 silent = {"stdout": subprocess.DEVNULL, "stderr": subprocess.DEVNULL}
+# of each program, files of what and of how many, with its words; and what it is given one file and ten of
+files = {"log": (("mixed", 2000000), ("short", 1000000), ("longest", 400000), ("repeats", 2000000)),
+         "unwrap": (("small", 100000), ("mixed", 100000), ("large", 100000), ("split", 500000)),
+         "wrap": (("small", 1000000, "1400"), ("mixed", 150000, "1400"), ("large", 90000, "1400"), ("mixed", 150000, "200")),
+         "guide": (("small", 1500000), ("mixed", 400000), ("large", 30000))}
+lengths = {"log": 2000000, "unwrap": 60000, "wrap": 100000, "guide": 250000}
+# calls of a case in one run
+cases = {"read-short": 3000000, "read-longest": 400000, "read-mixed": 3000000, "write-short": 3000000, "write-longest": 400000, "write-mixed": 3000000,
+         "unwrap-small": 1000000, "unwrap-mixed": 1000000, "unwrap-large": 1000000, "unwrap-split": 1000000,
+         "wrap-small": 1000000, "wrap-mixed": 1000000, "wrap-large": 1000000, "wrap-split": 1000000,
+         "guide-small": 3000000, "guide-mixed": 2000000, "guide-large": 400000, "guide-names": 40000}
 told = time.monotonic()
 
 
@@ -66,8 +77,7 @@ def memory(program, file):
 
 def calls(side, case):
     """Nanoseconds of a call."""
-    rounds_of_it = "400000" if case.endswith("longest") else "1000000" if "wrap" in case else "3000000"
-    with started(f"{made}bench_{side}", side, case, rounds_of_it, stdout=subprocess.PIPE, text=True) as p:
+    with started(f"{made}bench_{side}", side, case, str(cases[case]), stdout=subprocess.PIPE, text=True) as p:
         said = p.communicate()[0]
     return float(said.split()[4])  # "SIDE CASE N calls T ns each"
 
@@ -84,8 +94,8 @@ def compared(name, ours, plain):
     print(f"{name:38} {a / b:7.2f} {least:7.2f}   {low:.2f} to {high:.2f}", flush=True)
 
 
-def compare_programs(name, counts, room):
-    for what, count, *words in counts:
+def compare_programs(name, room):
+    for what, count, *words in files[name]:
         file = f"{room}/{what}"
         make_file(name, what, count, file)
         compared(f"{' '.join((name, *words))}, {count:,} {makers[name][1]}, {what}",
@@ -93,9 +103,9 @@ def compare_programs(name, counts, room):
         os.remove(file)
 
 
-def compare_lengths(name, count, room):
+def compare_lengths(name, room):
     """Memory and time on a file and on ten of it in a row."""
-    made_one, one, ten = f"{room}/made", f"{room}/one", f"{room}/ten"
+    made_one, one, ten, count = f"{room}/made", f"{room}/one", f"{room}/ten", lengths[name]
     make_file(name, "mixed", count, made_one)
     with open(made_one, "rb") as f:
         file = f.read()
@@ -113,15 +123,12 @@ def compare_lengths(name, count, room):
 def bench(room):
     print("both under the kit's emulator" if len(run) > 3 else "both on this processor")
     print(f"{'case':38} medians   least   middle half of {rounds} pairs", flush=True)
-    compare_programs("log", (("mixed", 2000000), ("short", 1000000), ("longest", 400000), ("repeats", 2000000)), room)
-    compare_programs("unwrap", (("small", 100000), ("mixed", 100000), ("large", 100000), ("split", 500000)), room)
-    compare_programs("wrap", (("small", 1000000, "1400"), ("mixed", 150000, "1400"), ("large", 90000, "1400"), ("mixed", 150000, "200")), room)
-    for case in ("read-short", "read-longest", "read-mixed", "write-short", "write-longest", "write-mixed",
-                 "unwrap-small", "unwrap-mixed", "unwrap-large", "unwrap-split", "wrap-small", "wrap-mixed", "wrap-large", "wrap-split"):
+    for name in files:
+        compare_programs(name, room)
+    for case in cases:
         compared(case, lambda: calls("ours", case), lambda: calls("plain", case))
-    compare_lengths("log", 2000000, room)
-    compare_lengths("unwrap", 60000, room)
-    compare_lengths("wrap", 100000, room)
+    for name in lengths:
+        compare_lengths(name, room)
 
 
 def interrupted(number, _):
@@ -131,8 +138,9 @@ def interrupted(number, _):
 for number in (signal.SIGHUP, signal.SIGINT, signal.SIGTERM):
     if signal.getsignal(number) is not signal.SIG_IGN:
         signal.signal(number, interrupted)
-seconds = 25 + 7 * rounds
+seconds = 28 + 9 * rounds
 long = f"{seconds} seconds" if seconds < 100 else f"{(seconds + 30) // 60} minutes"
-print(f"bench: 26 cases, {rounds} pairs each, then memory: about {long} on x86-64, longer under an emulator", file=sys.stderr, flush=True)
+count = sum(map(len, files.values())) + len(cases)
+print(f"bench: {count} cases, {rounds} pairs each, then memory: about {long} on x86-64, longer under an emulator", file=sys.stderr, flush=True)
 with tempfile.TemporaryDirectory(prefix="bench.", dir=made) as room:
     bench(room)

@@ -1,10 +1,11 @@
-/* Nanoseconds for one call of the reader, the writer, the tunnel's reader or its writer.
+/* Nanoseconds for one call of the reader, the writer, the tunnel's reader, its writer or the guide's reader, or for all names of a section of the guide.
    bench_calls ours|plain CASE ROUNDS
    Compiled with -DOURS for the one, without for the other; all else is the same. */
 #define _POSIX_C_SOURCE 199309L
 
 #include "make.h"
 #include "outer.h"
+#include "sections.h"
 
 #include <stdbool.h>
 #include <stdio.h>
@@ -17,11 +18,12 @@ enum {
     OUTPUT = 592,
     UNWRAPPED = 4096,
     LISTS = 1000,
-    STREAM = 200000, /* bytes of inner packets */
-    ITEMS = STREAM / INNER_SHORTEST
+    STREAM = 200000, /* bytes of inner packets, or of sections */
+    ITEMS = STREAM / (SECTION_LOOPS + 2)
 };
 
-/* The length of the listing, the number of segments, or one more than the bytes stored or written; 0 where refused. */
+/* The length of the listing, the number of segments, or one more than the bytes stored or written or the sections missing; 0 where refused. And where in its section
+   a name ends; 0 where there is none. */
 #ifdef OURS
 #include "lukasembo.h"
 #define WHO "ours"
@@ -61,7 +63,24 @@ static inline uint64_t wrap_one(const uint8_t *packet, size_t n, uint8_t *output
 
     return lukasembo_number(a) == LUKASEMBO_ACCEPTED ? 1 + lukasembo_wrote(a) : 0;
 }
+
+static inline uint64_t guide_one(const uint8_t *section, size_t n, uint8_t *output)
+{
+    static struct lukasembo_guide guide;
+    const uint64_t a = lukasembo_guide(&guide, section, n);
+
+    (void)output;
+    return lukasembo_new(a) || lukasembo_repeat(a) ? 1 + lukasembo_missing(a) : 0;
+}
+
+static inline size_t name_end(const uint8_t *section, size_t n, size_t which)
+{
+    const struct lukasembo_name name = lukasembo_guide_name(section, n, which);
+
+    return name.text != NULL ? (size_t)(name.text - section) + name.length : 0;
+}
 #else
+#include "guide.h"
 #include "plain.h"
 #include "tunnel.h"
 #define WHO "plain"
@@ -101,7 +120,34 @@ static inline uint64_t wrap_one(const uint8_t *packet, size_t n, uint8_t *output
 
     return a.number == 0 ? 1 + a.wrote : 0;
 }
+
+static inline uint64_t guide_one(const uint8_t *section, size_t n, uint8_t *output)
+{
+    static struct plain_guide guide;
+    const struct plain_guide_answer a = plain_guide(&guide, section, n);
+
+    (void)output;
+    return a.sort == PLAIN_NOTED || a.sort == PLAIN_REPEAT ? 1 + a.missing : 0;
+}
+
+static inline size_t name_end(const uint8_t *section, size_t n, size_t which)
+{
+    const struct plain_name name = plain_guide_name(section, n, which);
+
+    return (size_t)(name.text - section) + name.length;
+}
 #endif
+
+/* Each name by its number, until there is none. */
+static inline uint64_t names_one(const uint8_t *section, size_t n, uint8_t *output)
+{
+    uint64_t count = 0;
+    size_t end;
+
+    for (; (end = name_end(section, n, count)) > 0; count++)
+        output[count] = (uint8_t)end;
+    return 1 + count;
+}
 
 struct item {
     const uint8_t *bytes;
@@ -153,6 +199,26 @@ static int make_inners(const char *name)
         items[count].n = stream.start[count + 1] - stream.start[count];
     }
     begin_wrap(stream.cut[1]);
+    return 1;
+}
+
+/* Sections of tables, one behind the other. */
+static int make_sections(const char *name)
+{
+    static struct section section;
+    struct tables tables = {0, 0, 0, {0}};
+    struct rng rng = {1};
+    uint8_t *to = store;
+
+    for (count = 0; to < store + STREAM; count++) {
+        if (!section_named(&rng, &section, name))
+            return 0;
+        tables_next(&rng, &tables, &section);
+        items[count].bytes = to;
+        items[count].n = section.n;
+        memcpy(to, section.bytes, section.n);
+        to += section.n;
+    }
     return 1;
 }
 
@@ -243,8 +309,8 @@ static uint64_t run_writer(unsigned long rounds)
     return sum;
 }
 
-/* Of the tunnel; each of its two calls is put in. */
-static inline __attribute__((always_inline)) uint64_t run_tunnel(unsigned long rounds, uint64_t (*one)(const uint8_t *input, size_t n, uint8_t *output))
+/* Of the tunnel and the guide; each of their calls is put in. */
+static inline __attribute__((always_inline)) uint64_t run_each(unsigned long rounds, uint64_t (*one)(const uint8_t *input, size_t n, uint8_t *output))
 {
     uint64_t sum = 0;
     size_t at = 0;
@@ -261,8 +327,8 @@ static inline __attribute__((always_inline)) uint64_t run_tunnel(unsigned long r
     return sum;
 }
 
-enum sort { READ, WRITE, UNWRAP, WRAP, SORTS };
-static const char *const sort_name[SORTS] = {"read-", "write-", "unwrap-", "wrap-"};
+enum sort { READ, WRITE, UNWRAP, WRAP, NAMES, GUIDE, SORTS };
+static const char *const sort_name[SORTS] = {"read-", "write-", "unwrap-", "wrap-", "guide-names", "guide-"};
 
 /* Which call a case is of, or SORTS. */
 static enum sort sort_of(const char *name)
@@ -280,6 +346,8 @@ static int make_case(enum sort sort, const char *name)
     case READ: case WRITE: return make_items(name);
     case UNWRAP: return make_outers(name + strlen(sort_name[UNWRAP]));
     case WRAP: return make_inners(name + strlen(sort_name[WRAP]));
+    case NAMES: return name[strlen(sort_name[NAMES])] == '\0' && make_sections("mixed");
+    case GUIDE: return make_sections(name + strlen(sort_name[GUIDE]));
     default: return 0;
     }
 }
@@ -292,8 +360,9 @@ static int all_taken(enum sort sort)
     for (i = 0; i < count; i++) {
         const struct item *item = &items[i];
 
-        if ((sort == WRAP ? wrap_one(item->bytes, item->n, buffer) : sort == UNWRAP ? unwrap_one(item->bytes, item->n, buffer)
-             : sort == WRITE ? write_one(item->bytes, item->n, item->kind, buffer) : read_one(item->bytes, item->n, buffer)) == 0)
+        if ((sort == READ ? read_one(item->bytes, item->n, buffer) : sort == WRITE ? write_one(item->bytes, item->n, item->kind, buffer)
+             : sort == UNWRAP ? unwrap_one(item->bytes, item->n, buffer) : sort == WRAP ? wrap_one(item->bytes, item->n, buffer)
+             : guide_one(item->bytes, item->n, buffer)) == 0)
             return 0;
     }
     return 1;
@@ -304,8 +373,10 @@ static uint64_t run(enum sort sort, unsigned long rounds)
     switch (sort) {
     case READ: return run_reader(rounds);
     case WRITE: return run_writer(rounds);
-    case UNWRAP: return run_tunnel(rounds, unwrap_one);
-    default: return run_tunnel(rounds, wrap_one);
+    case UNWRAP: return run_each(rounds, unwrap_one);
+    case WRAP: return run_each(rounds, wrap_one);
+    case NAMES: return run_each(rounds, names_one);
+    default: return run_each(rounds, guide_one);
     }
 }
 
@@ -319,7 +390,8 @@ int main(int argc, char **argv)
 
     if (rounds == 0 || strcmp(argv[1], WHO) != 0 || !make_case(sort, argv[2])) {
         fprintf(stderr, "usage: bench_calls " WHO " read-short|read-longest|read-mixed|write-short|write-longest|write-mixed"
-                        "|unwrap-small|unwrap-mixed|unwrap-large|unwrap-split|wrap-small|wrap-mixed|wrap-large|wrap-split ROUNDS\n");
+                        "|unwrap-small|unwrap-mixed|unwrap-large|unwrap-split|wrap-small|wrap-mixed|wrap-large|wrap-split"
+                        "|guide-small|guide-mixed|guide-large|guide-names ROUNDS\n");
         return 2;
     }
     if (!all_taken(sort)) {

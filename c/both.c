@@ -3,6 +3,8 @@
 #include <stdlib.h>
 #include <string.h>
 
+enum { AT_WORDS = (uint8_t)~7u }; /* the bits of a shift to where words and structs may stand */
+
 /* What is wrong, or null, and where: a memory, and the byte from its start, or NOWHERE. */
 struct fault {
     const char *what;
@@ -89,8 +91,10 @@ static void lay_all(void)
         return;
     for (side = 0; side < SIDES; side++)
         lent_fill(&lent[side][BUFFER], now.spot[BUFFER], now.pattern, now.room);
+    if (about.words)
+        spot.shift &= AT_WORDS;
     lent_lay(&lent[OURS][STATE], spot, now.memory, about.bytes);
-    spot.shift &= (uint8_t)~7u; /* where a struct may stand */
+    spot.shift &= AT_WORDS;
     lent_lay(&lent[PLAIN][STATE], spot, plain_state(), about.plain_bytes);
 }
 
@@ -273,6 +277,13 @@ int replay_call(void)
     }
     printf("%s\n", fault.what != NULL ? "a difference" : "no difference");
     return fault.what != NULL;
+}
+
+int replay_kept(const char *name)
+{
+    const int status = get_call(name);
+
+    return status != 0 ? status : replay_call();
 }
 
 int both(int argc, char **argv, uint64_t by_default, int (*replay)(const char *name))

@@ -1,4 +1,4 @@
-/* What the harnesses of the tunnel share: a call with a state, which is given to both sides, compared, told, kept and run again. */
+/* What the harnesses of the tunnel and of the guide share: a call with a state, which is given to both sides, compared, told, kept and run again. */
 #ifndef BOTH_H
 #define BOTH_H
 
@@ -49,6 +49,7 @@ extern const struct about {
     unsigned wrongs;           /* ways in which a result is made wrong */
     const char *memory;        /* what the state's memory is called */
     size_t bytes, plain_bytes; /* how long it is, and the state as the plain side has it */
+    int words;                 /* 1: it is numbers of 8 bytes, and stands where these may */
 } about;
 
 int has_state(void);                                /* whether the call at work has one */
@@ -81,6 +82,9 @@ int get_call(const char *name);
 
 /* Runs it again; the exit status. */
 int replay_call(void);
+
+/* The two, one behind the other. */
+int replay_kept(const char *name);
 
 /* Of main: so many calls by default; how a file is replayed. */
 int both(int argc, char **argv, uint64_t by_default, int (*replay)(const char *name));

@@ -21,7 +21,7 @@ static const struct phase phases[PHASES] = {
 /* How a result is made wrong; the seed says which. */
 enum { STORED_BYTE, BYTE_BEHIND, PART_BYTE, PART_BEHIND, HELD, LAST, LOST, GAP, WATCHED, NEXT_LENGTH, WRONGS };
 
-const struct about about = {phases, PHASES, SORTS, WRONGS, "part", LUKASEMBO_PACKET, sizeof(struct plain_tunnel)};
+const struct about about = {phases, PHASES, SORTS, WRONGS, "part", LUKASEMBO_PACKET, sizeof(struct plain_tunnel), 0};
 const char kept_mark[5] = "LKT1", kept_word[] = "tunnel";
 
 static struct stream stream;
@@ -467,14 +467,7 @@ void print_table(void)
     print_seen("  15", seen.number[15]);
 }
 
-static int replay(const char *name)
-{
-    const int status = get_call(name);
-
-    return status != 0 ? status : replay_call();
-}
-
 int main(int argc, char **argv)
 {
-    return both(argc, argv, 1700000, replay);
+    return both(argc, argv, 1700000, replay_kept);
 }

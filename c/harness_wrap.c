@@ -22,7 +22,7 @@ static const struct phase phases[PHASES] = {
 /* How a result is made wrong; the seed says which. The last is the outer packets of a round trip. */
 enum { WROTE_BYTE, BYTE_BEHIND, LEFT_BYTE, LEFT_BEHIND, NEXT, LEFT, BEGIN, WROTE, TIMESTAMP, WATCHED, SENT_BYTE, WRONGS };
 
-const struct about about = {phases, PHASES, SORTS, WRONGS, "memory", LUKASEMBO_SIZE, sizeof(struct plain_wrapper)};
+const struct about about = {phases, PHASES, SORTS, WRONGS, "memory", LUKASEMBO_SIZE, sizeof(struct plain_wrapper), 0};
 const char kept_mark[5] = "LKO1", kept_word[] = "wrap";
 
 enum {

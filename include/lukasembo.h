@@ -1,4 +1,5 @@
-/* Lukasembo for programs in C: the reader and the writer of FIC chunks, and those of the tunnel, proved to meet the definitions of this repository.
+/* Lukasembo for programs in C: the reader and the writer of FIC chunks, those of the tunnel, and the reader of the guide table, proved to meet the definitions of this
+ * repository.
  *
  * Linking. The archive is target/staticlib/liblukasembo.a, made by `rt staticlib lukasembo`. It is for x86-64 and needs nothing of the C library:
  *
@@ -77,7 +78,25 @@
  *     send(output, lukasembo_wrote(lukasembo_close(&wrapper, output, sizeof output))); // nothing, if it is 0
  *
  * What the writer gives, closed and read in order by a fresh reader, are the packets that went in; where up to 65,534 outer packets in a row are missing, only those
- * packets are lost that had a byte in them. */
+ * packets are lost that had a byte in them.
+ *
+ * The guide (ATSC A/153 Part 3, 7.4): who supplies it. A guide access table comes in sections, numbered from 0 to a last number that each of them tells, in any order and
+ * again and again. A call takes one section; lent to it is a gathering, which notes the numbers that were read. A section that is read has names, which are
+ * parts of the section itself:
+ *
+ *     struct lukasembo_guide guide = {0}; // an empty gathering
+ *
+ *     while (receive(section, &length)) {
+ *         uint64_t answer = lukasembo_guide(&guide, section, length);
+ *
+ *         if (lukasembo_new(answer)) // noted, for the first time
+ *             for (size_t n = 0; n < lukasembo_guide_names(section, length); n++) {
+ *                 struct lukasembo_name name = lukasembo_guide_name(section, length, n);
+ *                 fwrite(name.text, 1, name.length, file); // any bytes: they may steer a terminal
+ *             }
+ *         if (lukasembo_whole(answer)) // every section of the table was read
+ *             break;
+ *     } */
 #ifndef LUKASEMBO_H
 #define LUKASEMBO_H
 
@@ -89,7 +108,7 @@
 extern "C" {
 #endif
 
-/* The numbers that these calls give: R the reader, W the writer, T the tunnel's reader, S the reader of a store, O the tunnel's writer. */
+/* The numbers that these calls give: R the reader, W the writer, T the tunnel's reader, S the reader of a store, O the tunnel's writer, G the guide's reader. */
 enum lukasembo_number {
     LUKASEMBO_ACCEPTED = 0,
     LUKASEMBO_SHORT_BUFFER = 1,   /* R W T: a listing buffer under LUKASEMBO_LISTING bytes, an output under LUKASEMBO_OUTPUT, LUKASEMBO_UNWRAPPED;
@@ -103,7 +122,11 @@ enum lukasembo_number {
     LUKASEMBO_FOREIGN_OUTER = 16, /* T: under 12 bytes or over LUKASEMBO_OUTER, not version 2, with padding, extension or CSRC, not payload type 97 */
     LUKASEMBO_BAD_OFFSET = 17,    /* T: a marker, and packet_offset is at or past the payload's end */
     LUKASEMBO_BAD_SIZE = 18,      /* O: a payload size under 64 or over LUKASEMBO_SIZE */
-    LUKASEMBO_NOT_CARRIED = 19    /* O: first half byte not 4, a total length (bytes 2 and 3) outside 28 to LUKASEMBO_PACKET or not the bytes given */
+    LUKASEMBO_NOT_CARRIED = 19,   /* O: first half byte not 4, a total length (bytes 2 and 3) outside 28 to LUKASEMBO_PACKET or not the bytes given */
+    LUKASEMBO_BAD_SECTION = 20,   /* G: no byte; or, of table_id 0xDC, under 9 bytes, a section_length over 4,093, or one that is not that of the bytes given */
+    LUKASEMBO_OTHER_PROTOCOL = 21, /* G: the protocol version is not 0 */
+    LUKASEMBO_ABOVE_LAST = 22,    /* G: the section's number is above the last */
+    LUKASEMBO_RUNS_OVER = 23      /* G: a count, a name or a descriptor runs past the section's end, or bytes are left over; lukasembo_offset tells where it begins */
 };
 
 /* current_next: for the next frame, or for this one */
@@ -120,12 +143,14 @@ enum {
     LUKASEMBO_PACKET = 1500,   /* the longest inner packet; the shortest is 28 */
     LUKASEMBO_UNWRAPPED = 4096, /* more than one call of the tunnel's reader ever stores; no shorter output is taken for it */
     LUKASEMBO_SIZE = 1400,     /* the longest payload of the tunnel's writer; the shortest, but for that of a close, is 64 */
-    LUKASEMBO_WRAPPED = 2824   /* the most that one call of the tunnel's writer writes; a shorter output may do */
+    LUKASEMBO_WRAPPED = 2824,  /* the most that one call of the tunnel's writer writes; a shorter output may do */
+    LUKASEMBO_SECTION = 4096   /* the longest section of the guide */
 };
 
 /* An answer is one number; these take it apart. */
 
-/* where it is not LUKASEMBO_ACCEPTED, all else is 0, but LUKASEMBO_ENDS_EARLY has its offset, and LUKASEMBO_BAD_OFFSET a gap and what is lost */
+/* where it is not LUKASEMBO_ACCEPTED, all else is 0, but LUKASEMBO_ENDS_EARLY and LUKASEMBO_RUNS_OVER have their offset, and LUKASEMBO_BAD_OFFSET a gap and what is
+ * lost */
 static inline enum lukasembo_number lukasembo_number(uint64_t answer) { return (enum lukasembo_number)(answer & 0xFF); }
 
 /* of the reader: the frame that the list is for, the chunk's minor edition (0 to 7), and the length of the listing; the last is also, of the reader of a
@@ -136,7 +161,8 @@ static inline size_t lukasembo_length(uint64_t answer) { return (size_t)(answer 
 
 /* of the reader, with LUKASEMBO_ENDS_EARLY: the offset in the chunk of the first thing that does not fit whole, which is the header (0, also of a chunk of
  * 0 or 1 byte), the fields of an ensemble, or a single service, each with its extension bytes. All before it is there; it is at most the chunk's length.
- * With any other number it is 0 */
+ * Of the guide's reader, with LUKASEMBO_RUNS_OVER: the offset in the section of the first count, of the first name's length byte or of the first descriptor's tag that
+ * does not fit, or of the first byte left over; where no byte of it is there, it is the section's length. With any other number it is 0 */
 static inline size_t lukasembo_offset(uint64_t answer) { return (size_t)(answer >> 32); }
 
 /* of the writer: how many segments of LUKASEMBO_SEGMENT bytes */
@@ -151,6 +177,15 @@ static inline size_t lukasembo_lost(uint64_t answer) { return (size_t)(answer >>
 
 /* of the tunnel's writer: how many bytes stand at the start of the output */
 static inline size_t lukasembo_wrote(uint64_t answer) { return (size_t)(answer >> 16 & 0xFFFF); }
+
+/* of the guide's reader: whether the section is another table's, whatever its length; whether it is the guide's and not yet in force. Of both the number is
+ * LUKASEMBO_ACCEPTED and nothing changes. lukasembo_repeat is whether its number was noted before. How many sections of its table are missing, of one that was read;
+ * else 0: so lukasembo_whole asks whether it was read, now or before, and none is missing, and lukasembo_new whether it was read, and not before */
+static inline bool lukasembo_not_ours(uint64_t answer) { return (answer >> 9 & 1) != 0; }
+static inline bool lukasembo_not_yet(uint64_t answer) { return (answer >> 10 & 1) != 0; }
+static inline unsigned lukasembo_missing(uint64_t answer) { return (unsigned)(answer >> 16 & 0xFFFF); }
+static inline bool lukasembo_whole(uint64_t answer) { return (answer & 0xFFFF06FF) == 0; }
+static inline bool lukasembo_new(uint64_t answer) { return (answer & 0x07FF) == 0; }
 
 /* Reads a chunk, of any minor edition, with its stuffing or without. Its listing goes to the start of the buffer and bytes past it stay; a refusal
  * writes nothing. Refusals, in the order of the checks: 1, 8, 9, 5, 9, then for each ensemble 9, 9. */
@@ -232,6 +267,46 @@ static inline uint64_t lukasembo_close(struct lukasembo_wrapper *state, uint8_t 
 /* The next packet of a store, at this place: it is at store + at + 4, and its length is lukasembo_length; the next place is at + 4 + that length. Length 0 is
  * the end of the store, and so is a place past it; or it is refused with 15. What the packet itself says is not looked at. */
 uint64_t lukasembo_next_packet(const uint8_t *store, size_t store_length, size_t at);
+
+/* The guide's gathering. All zeros is an empty one. Any other content is a gathering too: a version that no section has is another one than any section's, and bits
+ * above the last number mean nothing. */
+struct lukasembo_guide {
+    uint64_t numbers;  /* bits 0 to 7 the version, 8 to 15 the last number; the others are disregarded */
+    uint64_t noted[4]; /* section n was read: bit n % 64 of word n / 64 */
+};
+
+/* The same with the numbers by value: their new value is in what comes back, and the four words are lent in place. */
+struct lukasembo_step lukasembo_guide_step(uint64_t numbers, uint64_t *noted, const uint8_t *section, size_t section_length);
+
+/* Takes a section of a guide access table. Of another version or last number than the gathering's, it empties that first. Refusals, in the order of the checks: 20 for
+ * no byte at all, then what is another table's is not ours; 20, 21, then what is not yet in force; 22, 23. They change nothing, nor does a section that is not ours or
+ * not yet in force. */
+static inline uint64_t lukasembo_guide(struct lukasembo_guide *state, const uint8_t *section, size_t section_length)
+{
+    const struct lukasembo_step step = lukasembo_guide_step(state->numbers, state->noted, section, section_length);
+
+    state->numbers = step.numbers;
+    return step.answer;
+}
+
+/* How many names a section has: 0 to 255; none where it was not or would not be read. */
+size_t lukasembo_guide_names(const uint8_t *section, size_t section_length);
+
+/* Where the n-th name stands in its section, n from 0: bits 0 to 15 the offset, 0 where there is none, and above them the length. */
+uint64_t lukasembo_name_place(const uint8_t *section, size_t section_length, size_t n);
+
+/* The n-th name, a part of the section that was lent; null where there is none. An empty name is not null. Each call goes through the section anew. */
+struct lukasembo_name {
+    const uint8_t *text;
+    size_t length;
+};
+static inline struct lukasembo_name lukasembo_guide_name(const uint8_t *section, size_t section_length, size_t n)
+{
+    const uint64_t place = lukasembo_name_place(section, section_length, n);
+    const struct lukasembo_name name = {(place & 0xFFFF) ? section + (place & 0xFFFF) : NULL, (size_t)(place >> 16)};
+
+    return name;
+}
 
 #ifdef __cplusplus
 }

@@ -2,13 +2,13 @@
 #define _POSIX_C_SOURCE 200809L
 
 #include "output.h"
+#include "records.h"
 #include "tunnel.h"
 
 #include <signal.h>
 #include <stdio.h>
 
 enum {
-    HEAD = 4,              /* of a record: OP and a length */
     RECORD = HEAD + 65535, /* the longest */
     LINE = 256             /* more than a line of the report ever has */
 };
@@ -61,23 +61,15 @@ static void do_outer(struct work *w, const uint8_t *outer, size_t n)
 /* Takes whole records from the start of what is there. Answers how many bytes they are; *unknown is 1 if an unknown mark follows them. */
 static size_t take_records(struct work *w, size_t n, int *unknown)
 {
-    const uint8_t *in = w->in;
-    size_t at = 0;
+    size_t at = 0, size;
 
-    while (n - at >= 2 && !failed(w)) {
-        size_t length;
-
-        if (in[at] != 'O' || in[at + 1] != 'P') {
+    while (!failed(w) && (size = record_at(w->in + at, n - at, "OP")) != 0) {
+        if (size == UNKNOWN) {
             *unknown = 1;
             break;
         }
-        if (n - at < HEAD)
-            break;
-        length = (size_t)in[at + 2] << 8 | in[at + 3];
-        if (n - at - HEAD < length)
-            break;
-        do_outer(w, in + at + HEAD, length);
-        at += HEAD + length;
+        do_outer(w, w->in + at + HEAD, size - HEAD);
+        at += size;
     }
     return at;
 }

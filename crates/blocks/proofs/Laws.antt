@@ -31,6 +31,7 @@ use Rattle.manners.specs.Manners.{bytesIn, Room, statusOf}
 use Rattle.blocks.specs.declared.Step.{Step}
 use Rattle.blocks.specs.declared.Step.the-variants.{Next, Last, NotRead, Unheard, NotWritten}
 use Rattle.blocks.specs.declared.Unread.{Unread}
+use Rattle.blocks.specs.declared.Ended.{Ended}
 use Rattle.blocks.specs.Blocks.{mostTurns, unread, stepAfter, Stays, Brings, Refilled, Advances, Follows, Proceeds, TurnSays, Concludes, Concluded, Settles, Ends, runStatuses}
 
 -- ---- a byte moved down from the place from + i to the place i
@@ -254,6 +255,12 @@ ends Last e turns out r (line, inr (inr g)) over spent = rw g tt
 ends NotRead e turns out r g over spent = rw g (over refl)
 ends Unheard e turns out r g over spent = rw g tt
 ends NotWritten e turns out r g over spent = rw g tt
+
+-- so does a run that was finished at a place of its block
+pub run-ends : (forms : Forms) (block : List ℕ) (at have : ℕ) → at ≤ have → have ≤ length block → (e : Entry) → e ≡ entryIn forms (drop at (take have block)) → (step : Step) (turns : ℕ) (out : List ℕ) (r : Ended) → Settles step e out (r .ending) × (r .turns ≡ turns) × (r .at ≡ at) × (r .have ≡ have) → (noMore step ≡ true → isWhole (entryIn forms (unread block at have)) ≡ false) → (step ≡ Next → turns ≡ mostTurns) → Ends (r .ending) (r .turns) (entryIn forms (unread block (r .at) (r .have))) out
+run-ends forms block at have ahead inside e stands step turns out r g over spent =
+    rw (g .1, g .2, g .3)
+    (ends step (entryIn forms (unread block at have)) turns out (r .ending) (subst (λ (k : Entry). Settles step k out (r .ending)) (stands-unread forms block at have ahead inside e stands) (g .0)) over spent)
 
 -- whatever stands in the output
 ended : (r : Ending) (turns : ℕ) (e : Entry) (out : List ℕ) → Ends r turns e out → Concluded r turns e

@@ -155,3 +155,33 @@ pub fn settle(step: Step, entry: Entry, out: &mut [u8], to: i32) -> Ending
     let n = records::put_last(entry, out);
     conclude(step, entry, &out[..n], to, b"", to)
 }
+
+// After a run: how it ended, after how many turns, and where in the block.
+pub struct Ended {
+    pub ending: Ending,
+    pub turns: u64,
+    pub at: usize,
+    pub have: usize,
+}
+
+// Ends a run after so many turns, at a place of the block where this entry stands.
+pub fn finish(
+    step: Step,
+    entry: Entry,
+    turns: u64,
+    at: usize,
+    have: usize,
+    out: &mut [u8],
+    to: i32,
+) -> Ended
+    requires { ⌜ longestLast ≤ length (now out) ⌝ }
+    ensures { λ r. ⌜ Settles step entry (now (out .exit)) (r .ending) × (r .turns ≡ turns) × (r .at ≡ at) × (r .have ≡ have) ⌝ }
+{
+    let ending = settle(step, entry, out, to);
+    Ended {
+        ending: ending,
+        turns: turns,
+        at: at,
+        have: have,
+    }
+}

@@ -16,7 +16,8 @@ use Rattle.slots.specs.declared.Slot.{Slot}
 use Rattle.slots.specs.declared.Answer.{Answer}
 use Rattle.slots.specs.declared.Answer.the-variants.{Refused}
 use Rattle.segments.specs.Segment.{segmentKind, segmentChecks, numberIn}
-use Rattle.slots.specs.Slots.{holds, missingIn, clashing, holding}
+use Rattle.octets.specs.Sets.{holds}
+use Rattle.slots.specs.Slots.{missingIn, clashing, holding}
 use Rattle.slots.specs.Gathering.{side, Outcome, chunkIn, kindChecks, judged, completed, placed, gathered}
 use Rattle.octets.proofs.Laws.{either}
 use Rattle.notes.specs.Notes.{slotFor, otherKind}

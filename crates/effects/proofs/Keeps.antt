@@ -17,7 +17,8 @@ use Rattle.meaning.proofs.Lengths.{length-listing, listing-fits}
 use Rattle.slots.specs.declared.Answer.{Answer}
 use Rattle.slots.specs.declared.Answer.the-variants.{Missing, NewList, Refused}
 use Rattle.segments.specs.Segment.{segmentKind, segmentChecks, numberIn}
-use Rattle.slots.specs.Slots.{holds, missingIn, clashing}
+use Rattle.octets.specs.Sets.{holds}
+use Rattle.slots.specs.Slots.{missingIn, clashing}
 use Rattle.slots.specs.Gathering.{Side, side, Outcome, hold, chunkIn, kindChecks, judged, completed, gathered}
 use Rattle.slots.proofs.Keeps.{empty-fits, gathered-fits}
 use Rattle.notes.specs.Notes.{lengthFits, lengthFor, otherKind, lengthAfter}

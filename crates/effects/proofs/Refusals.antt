@@ -24,7 +24,8 @@ use Rattle.slots.specs.declared.Slot.{Slot}
 use Rattle.slots.specs.declared.Answer.{Answer}
 use Rattle.slots.specs.declared.Answer.the-variants.{Missing, NewList, Refused}
 use Rattle.segments.specs.Segment.{payloadBytes, segmentMajor, segmentKind, numberIn, payloadIn, segmentChecks}
-use Rattle.slots.specs.Slots.{holds, spoiledSlot, missingIn, slotFits, clashing}
+use Rattle.octets.specs.Sets.{holds}
+use Rattle.slots.specs.Slots.{spoiledSlot, missingIn, slotFits, clashing}
 use Rattle.slots.specs.Gathering.{answerFault, Side, Outcome, outcome, spoil, chunkIn, kindChecks, gathered}
 use Rattle.slots.proofs.Keeps.{segment-passes, slot-numbers}
 use Rattle.slots.proofs.Laws.{gathered-cases}

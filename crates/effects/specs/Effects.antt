@@ -18,7 +18,8 @@ use Rattle.meaning.specs.Listing.{listing}
 use Rattle.meaning.specs.Checks.{andThen}
 use Rattle.meaning.specs.Reading.{checks}
 use Rattle.segments.specs.Segment.{segmentMajor, segmentKind, numberIn}
-use Rattle.slots.specs.Slots.{holds, missingIn, clashing}
+use Rattle.octets.specs.Sets.{holds}
+use Rattle.slots.specs.Slots.{missingIn, clashing}
 use Rattle.slots.specs.Gathering.{Side, spoil, hold, chunkIn, kindChecks}
 use Rattle.notes.specs.Notes.{slotFor, lengthFor, lentFor}
 use Rattle.desk.specs.declared.Desk.{Desk}

@@ -14,9 +14,10 @@ use Rattle.meaning.specs.Reading.{Accepts}
 use Rattle.segments.specs.Segment.{payloadBytes}
 use Rattle.slots.specs.declared.Answer.{Answer}
 use Rattle.slots.specs.declared.Answer.the-variants.{Missing, NewList}
-use Rattle.slots.specs.Slots.{emptySlot, holds, including, slotFits}
+use Rattle.octets.specs.Sets.{holds, including}
+use Rattle.slots.specs.Slots.{emptySlot, slotFits}
 use Rattle.slots.specs.Gathering.{Side, side, Outcome, outcome, hold, gathered}
-use Rattle.slots.proofs.Bits.{holds-none}
+use Rattle.octets.proofs.Sets.{holds-none}
 use Rattle.notes.specs.Notes.{slotFor, lengthFor, lentFor}
 use Rattle.desk.specs.declared.Desk.{Desk}
 use Rattle.desk.specs.Desks.{wellFormed, bytesFor, After, after, segmentAfter}

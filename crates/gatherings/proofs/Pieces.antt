@@ -20,10 +20,11 @@ use Rattle.segments.specs.Segment.{segmentHeaderBytes, payloadBytes, placeOf, s
 use Rattle.segments.proofs.Places.{take-places}
 use Rattle.slots.specs.declared.Slot.{Slot}
 use Rattle.slots.specs.declared.Answer.the-variants.{Missing, NewList}
-use Rattle.slots.specs.Slots.{holds, including, missingIn, slotFits, clashing, holding}
+use Rattle.octets.specs.Sets.{holds, including}
+use Rattle.slots.specs.Slots.{missingIn, slotFits, clashing, holding}
 use Rattle.slots.specs.Gathering.{Side, side, outcome, hold, chunkIn, completed, gathered}
 use Rattle.meaning.proofs.Plain.{current-kind}
-use Rattle.slots.proofs.Bits.{holds-none, holds-including, holds-other, ones-including, complete-full}
+use Rattle.octets.proofs.Sets.{holds-none, holds-including, holds-other, ones-including, complete-full}
 use Rattle.slots.proofs.Keeps.{place-kept, place-stored, segment-passes, number-small, slot-numbers, hold-fits}
 use Rattle.slots.proofs.Laws.{completed-listed, clash-empty, gathered-repeat, gathered-more, gathered-last}
 

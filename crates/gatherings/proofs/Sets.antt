@@ -1,6 +1,6 @@
 -- The numbers that came as a set of places: how many are different, and when they are all. Assumes nothing.
 use mathlib.Core.Path.{_≡_, refl, sym, ap, _∙_}
-use mathlib.Core.Bool.{true, false, cond, _||_, true≢false}
+use mathlib.Core.Bool.{true, false, cond, true≢false}
 use mathlib.Core.List.{List, [], _∷_}
 use Prim.Native.Nat.{ℕ, suc, _^_, _≤_, _<_}
 use native.Mathlib.Omega.{arith}
@@ -10,9 +10,9 @@ use lib.Count.{ones, ones-le}
 use lib.Pow.{pow-pos}
 use Rattle.octets.specs.Each.{Each}
 use Rattle.octets.specs.Checks.{among}
-use Rattle.octets.proofs.Laws.{either}
-use Rattle.slots.specs.Slots.{holds, including}
-use Rattle.slots.proofs.Bits.{holds-none, holds-including, holds-other, ones-including, including-small, complete-full, full-complete}
+use Rattle.octets.proofs.Laws.{either, test-again}
+use Rattle.octets.specs.Sets.{holds, including}
+use Rattle.octets.proofs.Sets.{holds-none, holds-including, holds-other, ones-including, including-small, complete-full, full-complete}
 use Rattle.gatherings.specs.Once.{different}
 
 -- the set of some places
@@ -20,13 +20,10 @@ abbrev pub setOf : List ℕ → ℕ
 setOf [] = 0
 setOf (i ∷ more) = cond (among more i) (setOf more) (including (setOf more) i)
 
-among-same : (more : List ℕ) (i j : ℕ) → among more i ≡ true → among more j ≡ eqb j i || among more j
-among-same more i j q = either (eqb j i) (λ e. ap (among more) (eqb-true j i e) ∙ q ∙ sym (simp e)) (λ e. sym (simp e))
-
 pub holds-setOf : (came : List ℕ) (j : ℕ) → holds (setOf came) j ≡ among came j
 holds-setOf [] j = holds-none j
 holds-setOf (i ∷ more) j =
-    either (among more i) (λ q. simp q (holds-setOf more j ∙ among-same more i j q))
+    either (among more i) (λ q. simp q (holds-setOf more j ∙ test-again (among more) i j q))
     (λ q.
     let free : holds (setOf more) i ≡ false = holds-setOf more i ∙ q in
     simp q

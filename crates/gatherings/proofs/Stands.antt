@@ -20,8 +20,8 @@ use Rattle.meaning.specs.Reading.{Accepts}
 use Rattle.segments.specs.Segment.{payloadBytes}
 use Rattle.slots.specs.declared.Slot.{Slot}
 use Rattle.slots.specs.declared.Answer.the-variants.{Missing}
-use Rattle.slots.specs.Slots.{holds, including}
-use Rattle.slots.proofs.Bits.{ones-including}
+use Rattle.octets.specs.Sets.{holds, including}
+use Rattle.octets.proofs.Sets.{ones-including}
 use Rattle.notes.specs.Notes.{slotFor, lengthFor, lentFor}
 use Rattle.desk.specs.declared.Desk.{Desk}
 use Rattle.desk.specs.Desks.{After, shownLength, shown}

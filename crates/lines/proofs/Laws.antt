@@ -1,15 +1,14 @@
 -- Laws of the lines: their lengths, and the lines of an answer case by case. Assumes nothing.
 use mathlib.Core.Path.{_≡_, sym, ap}
 use mathlib.Core.Bool.{Bool, true, false, cond}
-use mathlib.Core.List.{List, [], _++_}
+use mathlib.Core.List.{List, _++_}
 use Prim.Native.Nat.{ℕ, _+_, _*_, _^_, _≤_, _<_}
 use native.Mathlib.Omega.{arith}
 use borrow.Author.Tests.{eq-eqb, ne-eqb}
 use lib.Dec.{eqb}
 use lib.ListN.{length, length-append}
-use Rattle.octets.proofs.Laws.{either}
-use Rattle.text.specs.Text.{text, newline, decimal, numbered}
-use Rattle.text.proofs.Laws.{length-decimal, length-wide, length-numbered}
+use Rattle.text.specs.Text.{text, newline, numbered}
+use Rattle.text.proofs.Laws.{length-numbered, length-refused}
 use Rattle.hex.specs.Hex.{hex}
 use Rattle.hex.proofs.Written.{length-hex}
 use Rattle.meaning.specs.declared.Kind.{Kind}
@@ -20,7 +19,7 @@ use Rattle.meaning.specs.Numbers.{numberOf, offsetOf}
 use Rattle.meaning.proofs.Gives.{numberOf-small}
 use Rattle.slots.specs.declared.Answer.{Answer}
 use Rattle.slots.specs.declared.Answer.the-variants.{Missing, NewList, Refused}
-use Rattle.lines.specs.Lines.{listingLines, frameLines, kindText, offsetText, refusalLine, missingLine, listLines, refusedLine, answerLines, longestLines}
+use Rattle.lines.specs.Lines.{listingLines, frameLines, kindText, refusalLine, missingLine, listLines, refusedLine, answerLines, longestLines}
 
 -- ---- lengths
 
@@ -43,21 +42,8 @@ pub length-kind : (k : Kind) → length (kindText k) ≡ 15
 length-kind This = omega arith
 length-kind Next = omega arith
 
-pub length-offset : (number at : ℕ) → at < 2 ^ 64 → length (offsetText number at) ≤ 24
-length-offset number at h = either (eqb number 9) (λ q. simp q (omega (arith, length-wide at h))) (λ q. simp q (omega arith))
-
 length-refusal : (f : Refusal) → offsetOf f < 2 ^ 64 → length (refusalLine f) ≤ 28
-unfolding refusalLine
-length-refusal f h =
-    let number : List ℕ = decimal (numberOf f) in
-    let offset : List ℕ = offsetText (numberOf f) (offsetOf f) in
-    omega (
-      arith,
-      length-append number (offset ++ newline),
-      length-append offset newline,
-      length-decimal 2 (numberOf f) (omega (arith, numberOf-small f)),
-      length-offset (numberOf f) (offsetOf f) h,
-    )
+length-refusal f h = length-refused 9 (numberOf f) (offsetOf f) (omega (arith, numberOf-small f)) h
 
 -- the counts of an answer are not too great
 abbrev pub Countable : Answer → Type 0
@@ -94,12 +80,3 @@ unfolding answerLines
 refused-lines a f l e = ap (λ (b : Answer). answerLines b l) (sym e)
 
 -- and a refusal's line, part by part
-pub offset-none : (number at : ℕ) → (number ≡ 9 → ⊥) → [] ≡ offsetText number at
-offset-none number at h = rw (ne-eqb number 9 h)
-
-pub offset-some : (number at : ℕ) → number ≡ 9 → text " at " ++ decimal at ≡ offsetText number at
-offset-some number at e = rw (eq-eqb number 9 e)
-
-pub refusal-parts : (f : Refusal) (m o : ℕ) → m ≡ numberOf f → o ≡ offsetOf f → decimal m ++ (offsetText m o ++ newline) ≡ refusalLine f
-unfolding refusalLine
-refusal-parts f m o e is = λ i. decimal (e i) ++ (offsetText (e i) (is i) ++ newline)

@@ -1,10 +1,10 @@
 -- Document 01, "The log program": the lines for each answer.
 use Prim.Native.Nat.{ℕ, _+_, _*_}
 use mathlib.Core.Bool.{cond}
-use mathlib.Core.List.{List, [], _++_}
+use mathlib.Core.List.{List, _++_}
 use lib.Dec.{eqb}
 use lib.ListN.{length}
-use Rattle.text.specs.Text.{text, newline, decimal, numbered}
+use Rattle.text.specs.Text.{text, newline, numbered, refusedWith}
 use Rattle.hex.specs.Hex.{hex}
 use Rattle.meaning.specs.declared.Kind.{Kind}
 use Rattle.meaning.specs.declared.Kind.the-variants.{This, Next}
@@ -30,11 +30,8 @@ kindText This = text "SG 0 list this "
 kindText Next = text "SG 0 list next "
 
 -- a refusal: its number, and behind 9 the offset in the chunk
-abbrev pub offsetText : ℕ → ℕ → List ℕ
-offsetText number at = cond (eqb number 9) (text " at " ++ decimal at) []
-
-unfoldable pub refusalLine : Refusal → List ℕ
-refusalLine f = decimal (numberOf f) ++ (offsetText (numberOf f) (offsetOf f) ++ newline)
+abbrev pub refusalLine : Refusal → List ℕ
+refusalLine f = refusedWith 9 (numberOf f) (offsetOf f)
 
 -- an answer to a segment, and the listing l if one was made
 abbrev pub missingLine : ℕ → List ℕ

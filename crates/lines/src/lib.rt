@@ -6,7 +6,7 @@ ghost use Prim.Native.Nat.{_+_, _≤_};
 ghost use lib.ListN.{length};
 ghost use Rattle.meaning.specs.Sizes.{longestListing};
 ghost use Rattle.text.specs.Text.{Put};
-ghost use Rattle.lines.specs.Lines.{listingLines, frameLines, gatheringLine, kindText, offsetText, refusalLine, missingLine, listLines, refusedLine, longestLines};
+ghost use Rattle.lines.specs.Lines.{listingLines, frameLines, gatheringLine, kindText, refusalLine, missingLine, listLines, refusedLine, longestLines};
 
 // Room for the lines of any record.
 pub const LONGEST_LINES: usize = 15 + 4 + 2 * LONGEST_LISTING + 2;
@@ -52,28 +52,14 @@ fn put_kind(kind: Kind, out: &mut [u8], to: usize) -> usize
     }
 }
 
-// The offset behind the number 9.
-fn put_offset(number: u8, offset: u16, out: &mut [u8], to: usize) -> usize
-    requires { ⌜ to + 24 ≤ length (now out) ⌝ }
-    ensures { λ r. ⌜ Put (offsetText number offset) (now (out .entry)) to (now (out .exit)) r ⌝ }
-{
-    if number != 9 {
-        return to;
-    }
-    let at = text::put_text(b" at ", out, to);
-    text::put_number(offset as u64, out, at)
-}
-
-// A refusal, to the end of its line.
+// A refusal, to the end of its line; 9 tells an offset.
 fn put_refusal(refusal: Refusal, out: &mut [u8], to: usize) -> usize
     requires { ⌜ to + 32 ≤ length (now out) ⌝ }
     ensures { λ r. ⌜ Put (refusalLine refusal) (now (out .entry)) to (now (out .exit)) r ⌝ }
 {
     let number = meaning::number_of(refusal);
     let offset = meaning::offset_of(refusal);
-    let at = text::put_number(number as u64, out, to);
-    let end = put_offset(number, offset, out, at);
-    text::put_text(b"\n", out, end)
+    text::put_refused(9, number, offset, out, to)
 }
 
 // The line of a segment of whose chunk so many are still missing.

@@ -1,3 +1,4 @@
 pub mod Packed
 pub mod Steps
 pub mod Wraps
+pub mod Guides

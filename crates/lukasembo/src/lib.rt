@@ -1,4 +1,6 @@
-// The reader, the writer and the tunnel's two for programs in C: thin over the proved calls. include/lukasembo.h declares them.
+// The reader, the writer, the tunnel's two and the guide's for programs in C: thin over the proved calls. include/lukasembo.h declares them.
+use guides::Answer;
+use guides::Gathering;
 use meaning::Read;
 use store::Next;
 use tunnel::Numbers;
@@ -12,10 +14,12 @@ ghost use Rattle.meaning.specs.Numbers.{readValues};
 ghost use Rattle.meaning.specs.Reading.{readAnswer, readBuffer};
 ghost use Rattle.segments.specs.Segment.{mostSegments};
 ghost use Rattle.writer.specs.Writing.{writtenValues, writeAnswer, writeOutput};
-ghost use lib.ListN.{drop};
+ghost use lib.ListN.{length, drop};
 ghost use Rattle.store.specs.Store.{nextIn};
 ghost use Rattle.tunnel.specs.Unwrap.{unwrappedValues};
 ghost use Rattle.wrapper.specs.Wrap.{wrappedValues};
+ghost use Rattle.sections.specs.Reading.{nameCount};
+ghost use Rattle.lukasembo.specs.Guides.{packedGuide, gatheringIn, guideLeft, packedName, GuideStepSays};
 ghost use Rattle.lukasembo.specs.Packed.{packedRead, packedWritten};
 ghost use Rattle.lukasembo.specs.Steps.{packedUnwrapped, numbersIn, packedNumbers, numbersLeft, packedNext, StepSays};
 ghost use Rattle.lukasembo.specs.Wraps.{packedWrapped, writerIn, packedWriter, WrapStepSays, CloseStepSays};
@@ -248,4 +252,102 @@ pub extern "C" fn lukasembo_close_step(
     let answer = given.answer;
     let after = given.numbers;
     pack_given(answer, after)
+}
+
+// ---- the guide
+
+// The gathering, as the caller keeps it.
+fn unpack_gathering(packed: u64, noted: &[u64]) -> Gathering
+    requires { ⌜ length (now noted) ≡ 4 ⌝ }
+    ensures { λ r. ⌜ r ≡ gatheringIn packed (now (noted .entry)) ⌝ }
+{
+    Gathering {
+        version: (packed % 0x100) as u8,
+        last: (packed / 0x100 % 0x100) as u8,
+        noted: [noted[0], noted[1], noted[2], noted[3]],
+    }
+}
+
+// What the caller keeps after an answer: where nothing changes, what was given.
+fn left_gathering(answer: Answer, before: u64, after: Gathering) -> u64
+    ensures { λ r. ⌜ r ≡ guideLeft answer before after ⌝ }
+{
+    let packed = after.version as u64 + after.last as u64 * 0x100;
+    match answer {
+        Answer::NotOurs => before,
+        Answer::NotYet => before,
+        Answer::Refused(_) => before,
+        Answer::Noted { missing: _ } => packed,
+        Answer::Repeat { missing: _ } => packed,
+    }
+}
+
+// The guide's answer as one number.
+fn pack_guide(answer: Answer) -> u64
+    ensures { λ r. ⌜ r ≡ packedGuide answer ⌝ }
+{
+    match answer {
+        Answer::NotOurs => 0x200,
+        Answer::NotYet => 0x400,
+        Answer::Refused(refusal) => {
+            let number = sections::number_of(refusal);
+            let offset = sections::offset_of(refusal);
+            number as u64 + offset as u64 * 0x100000000
+        }
+        Answer::Noted { missing } => missing as u64 * 0x10000,
+        Answer::Repeat { missing } => 0x100 + missing as u64 * 0x10000,
+    }
+}
+
+// Puts the numbers noted where the caller keeps them.
+fn put_noted(after: [u64; 4], noted: &mut [u64])
+    requires { ⌜ length (now noted) ≡ 4 ⌝ }
+    ensures { λ _. ⌜ now (noted .exit) ≡ after ⌝ }
+{
+    noted[0] = after[0];
+    noted[1] = after[1];
+    noted[2] = after[2];
+    noted[3] = after[3];
+}
+
+fn guide_in(numbers: u64, noted: &mut [u64], section: &[u8]) -> Step
+    requires { ⌜ length (now noted) ≡ 4 ⌝ }
+    ensures { λ r. ⌜ GuideStepSays numbers (now (noted .entry)) (now (section .entry)) (r .answer) (r .numbers) (now (noted .exit)) ⌝ }
+{
+    let before = unpack_gathering(numbers, noted);
+    let told = before.take(section);
+    let answer = told.answer;
+    let after = told.gathering;
+    let words = after.noted;
+    put_noted(words, noted);
+    Step {
+        answer: pack_guide(answer),
+        numbers: left_gathering(answer, numbers, after),
+    }
+}
+
+// Takes a section of the guide: its number is noted in the caller's four words.
+#[no_mangle]
+pub extern "C" fn lukasembo_guide_step(numbers: u64, noted: &mut [u64; 4], section: &[u8]) -> Step
+    ensures { λ r. ⌜ GuideStepSays numbers (now (noted .entry)) (now (section .entry)) (r .answer) (r .numbers) (now (noted .exit)) ⌝ }
+{
+    let all: &mut [u64] = noted;
+    guide_in(numbers, all, section)
+}
+
+// How many names a section has.
+#[no_mangle]
+pub extern "C" fn lukasembo_guide_names(section: &[u8]) -> usize
+    ensures { λ r. ⌜ r ≡ nameCount (now (section .entry)) ⌝ }
+{
+    sections::name_count(section)
+}
+
+// Where a name stands in its section.
+#[no_mangle]
+pub extern "C" fn lukasembo_name_place(section: &[u8], n: usize) -> u64
+    ensures { λ r. ⌜ r ≡ packedName (now (section .entry)) n ⌝ }
+{
+    let place = sections::name_place(section, n);
+    place.from as u64 + place.length as u64 * 0x10000
 }

@@ -1,6 +1,6 @@
 -- Laws of fields and bytes, each over the widths. Assumes nothing.
 use mathlib.Core.Path.{_≡_, refl, sym, ap, ap₂, _∙_}
-use mathlib.Core.Bool.{Bool, true, false, and-eq-true-iff}
+use mathlib.Core.Bool.{Bool, true, false, _||_, and-eq-true-iff}
 use mathlib.Core.List.{List, [], _∷_, _++_, map, flatMap, append-assoc, append-nil}
 use Prim.Native.Nat.{ℕ, zero, suc, _+_, _*_, _/_, _%_, _^_, _≤_, _<_}
 use native.Mathlib.Nat.{mod-eq-of-lt, mod-one, add-zero, zero-add, suc-add, add-comm, add-assoc, mul-le-mul-right, lt-of-lt-of-le, pow-suc}
@@ -8,7 +8,7 @@ use native.Mathlib.Numerals.{one-add}
 use native.Mathlib.Omega.{arith}
 use borrow.Author.Tests.{eq-eqb, eqb-true}
 use lib.Dec.{eqb}
-use lib.ListN.{length, getD, take, drop, length-append, length-take, length-drop}
+use lib.ListN.{length, getD, take, drop, length-append, length-take, length-drop, take-append-drop}
 use lib.Seq.{take-append-le, drop-append-le, take-at, drop-at, getD-drop}
 use lib.Pow.{pow-mono, pow-add, mod-pow-add, shr-shr}
 use Rattle.octets.specs.Bits.{Field, field, bits, laid, number, octets, bytesOf, InWidth, Held, run, Bytes}
@@ -22,6 +22,10 @@ use Rattle.octets.specs.Word.{word, high, low, wordBytes}
 pub either : {P : Type 0} (t : Bool) → (t ≡ true → P) → (t ≡ false → P) → P
 either true a b = a refl
 either false a b = b refl
+
+-- a test that passes n passes it still where n is added
+pub test-again : (test : ℕ → Bool) (n m : ℕ) → test n ≡ true → test m ≡ eqb m n || test m
+test-again test n m t = either (eqb m n) (λ e. ap test (eqb-true m n e) ∙ t ∙ sym (simp e refl)) (λ e. sym (simp e refl))
 
 -- a rule that is not broken, by an answer that is not the one for it: what follows gives that answer
 pub check-follows : {A : Type 0} (broken : Bool) {answer rest v : A} → (answer ≡ v → ⊥) → check broken answer rest ≡ v → (broken ≡ false) × (rest ≡ v)
@@ -141,6 +145,28 @@ unfolding laid
 laid-append [] fs = refl
 laid-append (field w v ∷ gs) fs = ap (λ (t : List ℕ). bits w v ++ t) (laid-append gs fs) ∙ sym (append-assoc (bits w v) (laid gs) (laid fs))
 
+-- ---- every bit is 0 or 1
+
+abbrev Bit : ℕ → Type 0
+Bit b = b < 2
+
+each-bits : (w v : ℕ) → Each Bit (bits w v)
+unfolding bits
+each-bits zero v = tt
+each-bits (suc w) v = (omega arith, each-bits w v)
+
+each-laid : (fs : List Field) → Each Bit (laid fs)
+unfolding laid
+each-laid [] = tt
+each-laid (field w v ∷ fs) = each-append Bit (bits w v) (laid fs) (each-bits w v) (each-laid fs)
+
+number-lt : (bs : List ℕ) → Each Bit bs → number bs < 2 ^ length bs
+unfolding number
+number-lt [] h = omega arith
+number-lt (b ∷ bs) h =
+    let one : b ≤ 1 = omega arith in
+    omega (arith, number-lt bs (h .1), mul-le-mul-right (2 ^ length bs) one, pow-suc 2 (length bs))
+
 -- ---- lists of bytes
 
 pub bytes-take : (n : ℕ) (xs : List ℕ) → Bytes xs → Bytes (take n xs)
@@ -231,10 +257,31 @@ octets-word v t =
     ∙ ap₂ _∷_ (number-bits 8 (v / 256))
     (octets-cons (bits 8 v) t (length-bits 8 v) ∙ ap (λ (k : ℕ). k ∷ octets (length t / 8) t) (number-bits 8 v))
 
+-- fields that fill two bytes
+pub makes-two : (gs : List Field) → width gs ≡ 16 → Makes gs (wordBytes (packed gs))
+unfolding bytesOf
+makes-two gs e =
+    record {
+      made = λ h fs.
+          let bs : List ℕ = laid gs in
+          let long : length bs ≡ 16 = length-laid gs ∙ e in
+          let first : length (take 8 bs) ≡ 8 = omega (arith, length-take 8 bs) in
+          let second : length (drop 8 bs) ≡ 8 = omega (arith, length-drop 8 bs) in
+          let whole : number (take 8 bs) * 256 + number (drop 8 bs) ≡ packed gs =
+          ap (λ (k : ℕ). number (take 8 bs) * 2 ^ k + number (drop 8 bs)) (sym second)
+          ∙ sym (number-append (take 8 bs) (drop 8 bs)) ∙ ap number (take-append-drop 8 bs) ∙ number-laid gs h in
+          let low-lt : number (drop 8 bs) < 256 = omega (arith, number-lt (drop 8 bs) (each-split Bit 8 bs (each-laid gs) .1), ap (λ (k : ℕ). 2 ^ k) second) in
+          let high-is : number (take 8 bs) ≡ high (packed gs) = omega arith in
+          let low-is : number (drop 8 bs) ≡ low (packed gs) = omega arith in
+          ap (λ (t : List ℕ). octets (length t / 8) t)
+          (laid-append gs fs ∙ ap (λ (t : List ℕ). t ++ laid fs) (sym (take-append-drop 8 bs)) ∙ append-assoc (take 8 bs) (drop 8 bs) (laid fs))
+          ∙ octets-cons (take 8 bs) (drop 8 bs ++ laid fs) first
+          ∙ ap₂ _∷_ high-is (octets-cons (drop 8 bs) (laid fs) second ∙ ap (λ (k : ℕ). k ∷ bytesOf fs) low-is);
+    }
+
 -- a two-byte number, and one of four bytes
 pub makes-word : (v : ℕ) → Makes (field 16 v ∷ []) (wordBytes v)
-unfolding bytesOf laid
-makes-word v = record { made = λ h fs. octets-word v (laid fs) ∙ ap (λ (k : ℕ). k ∷ low v ∷ bytesOf fs) (omega (arith, h .0)) }
+makes-word v = record { made = λ h fs. makes-two (field 16 v ∷ []) refl .made h fs ∙ ap (λ (k : ℕ). wordBytes k ++ bytesOf fs) (omega arith) }
 
 pub makes-long : (v : ℕ) → Makes (field 32 v ∷ []) (wordBytes (v / 65536) ++ wordBytes (v % 65536))
 unfolding bytesOf laid
@@ -310,27 +357,7 @@ pub width-run : (xs : List ℕ) → width (run xs) ≡ length xs * 8
 width-run [] = refl
 width-run (x ∷ xs) = ap (λ (n : ℕ). 8 + n) (width-run xs) ∙ omega arith
 
--- ---- what fields make are bytes: every bit is 0 or 1, and at most eight make a byte
-
-abbrev Bit : ℕ → Type 0
-Bit b = b < 2
-
-each-bits : (w v : ℕ) → Each Bit (bits w v)
-unfolding bits
-each-bits zero v = tt
-each-bits (suc w) v = (omega arith, each-bits w v)
-
-each-laid : (fs : List Field) → Each Bit (laid fs)
-unfolding laid
-each-laid [] = tt
-each-laid (field w v ∷ fs) = each-append Bit (bits w v) (laid fs) (each-bits w v) (each-laid fs)
-
-number-lt : (bs : List ℕ) → Each Bit bs → number bs < 2 ^ length bs
-unfolding number
-number-lt [] h = omega arith
-number-lt (b ∷ bs) h =
-    let one : b ≤ 1 = omega arith in
-    omega (arith, number-lt bs (h .1), mul-le-mul-right (2 ^ length bs) one, pow-suc 2 (length bs))
+-- ---- what fields make are bytes: at most eight bits make one
 
 octets-bytes : (n : ℕ) (bs : List ℕ) → Each Bit bs → Bytes (octets n bs)
 unfolding octets

@@ -3,3 +3,4 @@ pub mod Each
 pub mod Word
 pub mod Same
 pub mod Checks
+pub mod Sets

@@ -54,8 +54,9 @@ use Rattle.typed.proofs.Replies.{values-written, values-refused, values-unasked
 use Rattle.slots.specs.declared.Slot.{Slot}
 use Rattle.slots.specs.declared.Answer.the-variants.{Missing, Refused}
 use Rattle.slots.specs.Gathering.{chunkIn}
-use Rattle.slots.specs.Slots.{holds, spoiledSlot, missingIn}
-use Rattle.slots.proofs.Bits.{complete-full, full-complete}
+use Rattle.octets.specs.Sets.{holds}
+use Rattle.slots.specs.Slots.{spoiledSlot, missingIn}
+use Rattle.octets.proofs.Sets.{complete-full, full-complete}
 use Rattle.desk.specs.declared.Desk.{Desk}
 use Rattle.notes.specs.Notes.{slotFor, otherKind, lentFor}
 use Rattle.desk.specs.Desks.{fresh, wellFormed, newGathering, newFrame, After, after, callChecks, segmentAfter, shownLength, shown}

@@ -18,13 +18,14 @@ use Rattle.meaning.specs.Reading.{checks}
 use Rattle.slots.specs.declared.Slot.{Slot}
 use Rattle.octets.specs.Same.{same}
 use Rattle.segments.specs.Segment.{segmentBytes, segmentHeaderBytes, payloadBytes, mostSegments, placeOf, segmentChecks, sortIn, errorIn, segmentMajor, numberIn, lastIn, payloadIn}
-use Rattle.slots.specs.Slots.{zeros, allBelow, holds, including, emptySlot, spoiledSlot, noBytes, missingIn, numbersFit, bytesFit, slotFits, clashing, holding}
+use Rattle.octets.specs.Sets.{holds, including}
+use Rattle.slots.specs.Slots.{zeros, allBelow, emptySlot, spoiledSlot, noBytes, missingIn, numbersFit, bytesFit, slotFits, clashing, holding}
 use Rattle.slots.specs.Gathering.{Side, hold, chunkIn, kindChecks, judged, completed, placed, gathered}
 use Rattle.octets.proofs.Laws.{either, same-eq}
 use Rattle.octets.proofs.Stores.{take-sets, drop-sets, drop-stored}
 use Rattle.meaning.proofs.Checks.{check-passed}
 use Rattle.segments.proofs.Places.{place-taken, take-places}
-use Rattle.slots.proofs.Bits.{holds-none, holds-including, holds-other, including-small}
+use Rattle.octets.proofs.Sets.{holds-none, holds-including, holds-other, including-small}
 
 -- ---- tests below a number
 

@@ -25,7 +25,8 @@ use Rattle.slots.specs.declared.Answer.the-variants.{Missing, NewList, R
 use Rattle.octets.specs.Same.{same}
 use Rattle.octets.proofs.Laws.{either}
 use Rattle.segments.specs.Segment.{segmentBytes, segmentHeaderBytes, payloadBytes, mostSegments, placeOf, numberIn, lastIn, payloadIn, segmentChecks}
-use Rattle.slots.specs.Slots.{holds, missingIn, slotFits, clashing, holding}
+use Rattle.octets.specs.Sets.{holds}
+use Rattle.slots.specs.Slots.{missingIn, slotFits, clashing, holding}
 use Rattle.slots.specs.Gathering.{Side, Outcome, side, outcome, spoil, hold, chunkIn, kindChecks, judged, completed, gathered}
 use Rattle.slots.proofs.Keeps.{slot-numbers, hold-fits}
 

@@ -2,22 +2,23 @@
 use mathlib.Core.Path.{_≡_, refl, sym, ap, ap₂, _∙_}
 use mathlib.Core.Bool.{Bool, true, false, _&&_, and-true, and-false, true≢false}
 use mathlib.Core.List.{List, _++_, append-nil}
-use Prim.Native.Nat.{ℕ, zero, suc, _+_, _-_, _*_, _/_, _%_, _^_, _≤_, _<_}
-use native.Mathlib.Nat.{one-mul, add-zero, add-assoc, div-lt-iff-lt-mul}
+use Prim.Native.Nat.{ℕ, zero, suc, _+_, _-_, _*_, _/_, _^_, _≤_, _<_}
+use native.Mathlib.Nat.{add-zero, add-assoc, div-lt-iff-lt-mul}
 use native.Mathlib.Numerals.{add-one}
 use native.Mathlib.Omega.{arith}
 use borrow.Author.Tests.{lt-ltb, le-ltb, ltb-true, ltb-false, eq-eqb, ne-eqb, eqb-true}
-use lib.Dec.{lit<, lit≤, eqb, ltb}
+use lib.Dec.{lit≤, eqb, ltb}
 use lib.ListN.{length, getD, take, drop, set, length-replicate, drop-of-length-le}
 use lib.Seq.{ext-getD, sets, sets-eq}
-use lib.Pow.{pow-pos, shl-exact}
+use lib.Pow.{pow-pos}
 use Rattle.meaning.specs.Sizes.{longestChunk}
 use Rattle.slots.specs.declared.Slot.{Slot}
 use Rattle.octets.specs.Same.{same}
 use Rattle.octets.proofs.Laws.{same-refl, same-eq}
 use Rattle.segments.specs.Segment.{payloadBytes, mostSegments, placeOf}
 use Rattle.segments.proofs.Places.{getD-part, length-part}
-use Rattle.slots.specs.Slots.{holds, zeros, allBelow, numbersFit, bytesFit, slotFits}
+use Rattle.octets.specs.Sets.{holds}
+use Rattle.slots.specs.Slots.{zeros, allBelow, numbersFit, bytesFit, slotFits}
 use Rattle.slots.specs.Words.{eight}
 use Rattle.slots.proofs.Keeps.{clean}
 
@@ -28,12 +29,6 @@ both false true f g = g refl
 both false false f g = refl
 
 -- ---- the set of held places
-
-pub bit-exact : (i : ℕ) → i < mostSegments → 1 * 2 ^ i % 2 ^ mostSegments ≡ 2 ^ i
-bit-exact i h = shl-exact 1 i mostSegments (lit< tt) (omega arith) ∙ one-mul (2 ^ i)
-
-pub bit-pos : (i b : ℕ) → b ≡ 2 ^ i → 0 < b
-bit-pos i b e = rw e (pow-pos i)
 
 none-above : (held last : ℕ) → ltb (held / 2 ^ last) 2 ≡ ltb held (2 ^ (last + 1))
 none-above held last =

@@ -1,4 +1,3 @@
-pub mod Bits
 pub mod Keeps
 pub mod Laws
 pub mod Leaves

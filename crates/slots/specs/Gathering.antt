@@ -20,7 +20,8 @@ use Rattle.slots.specs.declared.Slot.{Slot}
 use Rattle.slots.specs.declared.Answer.{Answer}
 use Rattle.slots.specs.declared.Answer.the-variants.{Missing, NewList, Refused}
 use Rattle.segments.specs.Segment.{payloadBytes, numberIn, payloadIn}
-use Rattle.slots.specs.Slots.{noBytes, holds, spoiledSlot, missingIn, clashing, holding}
+use Rattle.octets.specs.Sets.{holds}
+use Rattle.slots.specs.Slots.{noBytes, spoiledSlot, missingIn, clashing, holding}
 
 -- ---- an answer in document 01's numbers: its number, 0 where it is no refusal, and the offset that a refusal tells; how many are missing; the
 -- kind of the listing, 1 for this frame and 0 for the next, and its length. What an answer does not say is 0

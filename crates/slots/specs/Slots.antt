@@ -1,5 +1,5 @@
 -- Document 01, "The desk": a slot and its bytes, 16 places of 35. Which places are held is a set of 16 bits.
-use Prim.Native.Nat.{ℕ, zero, suc, _+_, _-_, _/_, _%_, _^_}
+use Prim.Native.Nat.{ℕ, zero, suc, _+_, _-_, _^_}
 use mathlib.Core.Bool.{Bool, true, false, cond, not, _&&_, _||_}
 use mathlib.Core.List.{List}
 use lib.Dec.{eqb, ltb}
@@ -8,6 +8,7 @@ use lib.Count.{ones}
 use Rattle.meaning.specs.Sizes.{longestChunk}
 use Rattle.slots.specs.declared.Slot.{Slot}
 use Rattle.octets.specs.Same.{same}
+use Rattle.octets.specs.Sets.{holds, including}
 use Rattle.segments.specs.Segment.{payloadBytes, mostSegments, placeOf, numberIn, lastIn, payloadIn}
 
 abbrev pub zeros : ℕ → List ℕ
@@ -17,16 +18,6 @@ zeros n = replicate n 0
 abbrev pub allBelow : ℕ → (ℕ → Bool) → Bool
 allBelow zero test = true
 allBelow (suc n) test = test n && allBelow n test
-
--- ---- places
-
--- whether the place i is in the set of held places
-abbrev pub holds : ℕ → ℕ → Bool
-holds held i = eqb (held / 2 ^ i % 2) 1
-
--- the set with the place i besides
-abbrev pub including : ℕ → ℕ → ℕ
-including held i = held + 2 ^ i
 
 -- ---- slots
 

@@ -15,7 +15,8 @@ ghost use lib.Seq.{sets};
 ghost use Rattle.meaning.specs.Sizes.{longestListing, longestChunk};
 ghost use Rattle.segments.specs.Segment.{segmentBytes, payloadBytes, mostSegments, segmentChecks, payloadIn};
 ghost use Rattle.octets.specs.Same.{same as Same·same};
-ghost use Rattle.slots.specs.Slots.{zeros, noBytes, holds as Slots·holds, missingIn, numbersFit, bytesFit, slotFits, clashing};
+ghost use Rattle.octets.specs.Sets.{holds as Sets·holds};
+ghost use Rattle.slots.specs.Slots.{zeros, noBytes, missingIn, numbersFit, bytesFit, slotFits, clashing};
 ghost use Rattle.slots.specs.Gathering.{side, outcome, gathered, completed};
 ghost use Rattle.slots.specs.Words.{eight};
 
@@ -52,7 +53,7 @@ fn bit(place: u8) -> u16
 
 fn holds(held: u16, place: u8) -> bool
     requires { ⌜ place < mostSegments ⌝ }
-    ensures { λ r. ⌜ r ≡ Slots·holds held place ⌝ }
+    ensures { λ r. ⌜ r ≡ Sets·holds held place ⌝ }
 {
     held / bit(place) % 2 == 1
 }

@@ -1,18 +1,18 @@
 // A log from one descriptor, its transcript to another, in blocks. What is printed is decided by `replay`; here bytes are moved.
+use blocks::Ended;
 use blocks::Step;
 use blocks::Unread;
 use desk::Desk;
 use manners::Ending;
 use meaning::LONGEST_LISTING;
 use notes::Notes;
-ghost use mathlib.Core.Path.{_≡_};
 ghost use lib.Dec.{T};
 ghost use Rattle.octets.specs.Checks.{among};
 ghost use Prim.Native.Nat.{_≤_};
 ghost use lib.ListN.{length};
 ghost use Rattle.records.specs.Records.{entryIn};
 ghost use Rattle.records.specs.Transcripts.{filled};
-ghost use Rattle.blocks.specs.Blocks.{unread as Blocks·unread, TurnSays, Settles, Ends, runStatuses};
+ghost use Rattle.blocks.specs.Blocks.{unread as Blocks·unread, TurnSays, Ends, runStatuses};
 ghost use Rattle.manners.specs.Manners.{statusOf};
 ghost use Rattle.desk.specs.Desks.{desk as Desks·desk};
 ghost use Rattle.desk.specs.Calls.{state, Ready};
@@ -24,14 +24,6 @@ struct Turned {
     notes: Notes,
     wrote: usize,
     unread: Unread,
-}
-
-// After a run: how it ended, after how many turns, and where in the block.
-struct Ended {
-    ending: Ending,
-    turns: u64,
-    at: usize,
-    have: usize,
 }
 
 // One turn: prints the records at the start of what is unread, as many as the output has room for, and goes on behind them.
@@ -65,29 +57,6 @@ fn turn(
     }
 }
 
-// Ends a run at a step.
-fn finish(
-    step: Step,
-    turns: u64,
-    block: &[u8],
-    at: usize,
-    have: usize,
-    out: &mut [u8],
-    to: i32,
-) -> Ended
-    requires { ⌜ (at ≤ have) × (have ≤ length (now block)) × (longestLines ≤ length (now out)) ⌝ }
-    ensures { λ r. ⌜ Settles step (entryIn logForm (Blocks·unread (now (block .entry)) at have)) (now (out .exit)) (r .ending) × (r .turns ≡ turns) × (r .at ≡ at) × (r .have ≡ have) ⌝ }
-{
-    let entry = replay::entry_at(&block[..have], at);
-    let ending = blocks::settle(step, entry, out, to);
-    Ended {
-        ending: ending,
-        turns: turns,
-        at: at,
-        have: have,
-    }
-}
-
 // Prints the transcript of a log, from a well formed desk whose bytes are lent in place.
 fn run(
     notes: Notes,
@@ -116,10 +85,12 @@ fn run(
         have = u.have;
         let step = u.step;
         if blocks::stops(step) {
-            return finish(step, turns, block, at, have, out, to);
+            let last = replay::entry_at(&block[..have], at);
+            return blocks::finish(step, last, turns, at, have, out, to);
         }
     }
-    finish(Step::Next, turns, block, at, have, out, to)
+    let last = replay::entry_at(&block[..have], at);
+    blocks::finish(Step::Next, last, turns, at, have, out, to)
 }
 
 // Prints the transcript of a log, from a fresh desk.

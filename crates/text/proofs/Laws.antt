@@ -4,13 +4,13 @@ use mathlib.Core.List.{List, [], _∷_, _++_}
 use Prim.Native.Nat.{ℕ, zero, suc, _+_, _-_, _*_, _/_, _%_, _^_, _≤_, _<_}
 use native.Mathlib.Nat.{pow-suc}
 use native.Mathlib.Omega.{arith}
-use borrow.Author.Tests.{lt-ltb, le-ltb, ltb-true, ltb-false}
-use lib.Dec.{ltb}
+use borrow.Author.Tests.{lt-ltb, le-ltb, ltb-true, ltb-false, eq-eqb, ne-eqb}
+use lib.Dec.{ltb, eqb}
 use lib.ListN.{length, set, length-append}
 use lib.Seq.{sets, length-sets, set-comm}
 use Rattle.octets.proofs.Laws.{either}
 use Rattle.octets.proofs.Stores.{sets-append}
-use Rattle.text.specs.Text.{newline, digit, decimalIn, decimal, numbered, Put}
+use Rattle.text.specs.Text.{text, newline, digit, decimalIn, decimal, numbered, offsetText, refusedWith, Put}
 
 -- ---- what is put at a place
 
@@ -125,3 +125,21 @@ digit-next n to at l h e =
     rw (place, decimal-large n h)
     (sets-set (decimal (n / 10)) l to (to + length (decimal (n / 10))) (digit (n % 10)) (omega arith)
     ∙ sym (sets-append (decimal (n / 10)) (digit (n % 10) ∷ []) l to))
+
+-- ---- a refusal
+
+module _ (telling number at : ℕ) where
+  pub offset-none : (number ≡ telling → ⊥) → [] ≡ offsetText telling number at
+  offset-none h = rw (ne-eqb number telling h)
+
+  pub offset-some : number ≡ telling → text " at " ++ decimal at ≡ offsetText telling number at
+  offset-some e = rw (eq-eqb number telling e)
+
+  pub length-offset : at < 2 ^ 64 → length (offsetText telling number at) ≤ 24
+  length-offset h = either (eqb number telling) (λ q. simp q (omega (arith, length-wide at h))) (λ q. simp q (omega arith))
+
+  pub length-refused : number < 10 ^ 3 → at < 2 ^ 64 → length (refusedWith telling number at) ≤ 28
+  unfolding refusedWith
+  length-refused n h =
+      let offset : List ℕ = offsetText telling number at in
+      omega (arith, length-append (decimal number) (offset ++ newline), length-append offset newline, length-decimal 2 number n, length-offset h)

@@ -6,7 +6,7 @@ use Prim.Native.String.{[] as empty, _∷_ as then}
 use mathlib.Core.Path.{_≡_}
 use mathlib.Core.Bool.{cond}
 use mathlib.Core.List.{List, [], _∷_, _++_}
-use lib.Dec.{ltb}
+use lib.Dec.{ltb, eqb}
 use lib.ListN.{length}
 use lib.Seq.{sets}
 
@@ -33,6 +33,14 @@ decimal n = decimalIn (suc n) n
 -- a number and the end of its line
 abbrev pub numbered : ℕ → List ℕ
 numbered n = decimal n ++ newline
+
+-- ---- a refusal: its number; behind the one number that tells an offset, that; and the end of the line
+
+abbrev pub offsetText : ℕ → ℕ → ℕ → List ℕ
+offsetText telling number at = cond (eqb number telling) (text " at " ++ decimal at) []
+
+unfoldable pub refusedWith : ℕ → ℕ → ℕ → List ℕ
+refusedWith telling number at = decimal number ++ (offsetText telling number at ++ newline)
 
 -- the bytes vs, put at the place to of l, leave m and end before the place end
 abbrev pub Put : List ℕ → List ℕ → ℕ → List ℕ → ℕ → Type 0

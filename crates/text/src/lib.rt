@@ -3,7 +3,7 @@ ghost use mathlib.Core.Path.{_≡_};
 ghost use Prim.Native.Nat.{_+_, _≤_};
 ghost use lib.ListN.{length};
 ghost use lib.Seq.{sets};
-ghost use Rattle.text.specs.Text.{decimal, numbered, Put};
+ghost use Rattle.text.specs.Text.{decimal, numbered, offsetText, refusedWith, Put};
 
 // Puts a word at a place of the output; the place after it.
 pub fn put_text(word: &[u8], out: &mut [u8], to: usize) -> usize
@@ -69,4 +69,26 @@ pub fn put_numbered(n: u64, out: &mut [u8], to: usize) -> usize
     let end = put_number(n, out, to);
     out[end] = b'\n';
     end + 1
+}
+
+// The offset behind the number that tells one.
+fn put_offset(telling: u8, number: u8, offset: u16, out: &mut [u8], to: usize) -> usize
+    requires { ⌜ to + 24 ≤ length (now out) ⌝ }
+    ensures { λ r. ⌜ Put (offsetText telling number offset) (now (out .entry)) to (now (out .exit)) r ⌝ }
+{
+    if number != telling {
+        return to;
+    }
+    let at = put_text(b" at ", out, to);
+    put_number(offset as u64, out, at)
+}
+
+// Puts a refusal's number, the offset behind it if it is the number that tells one, and ends the line.
+pub fn put_refused(telling: u8, number: u8, offset: u16, out: &mut [u8], to: usize) -> usize
+    requires { ⌜ to + 32 ≤ length (now out) ⌝ }
+    ensures { λ r. ⌜ Put (refusedWith telling number offset) (now (out .entry)) to (now (out .exit)) r ⌝ }
+{
+    let at = put_number(number as u64, out, to);
+    let end = put_offset(telling, number, offset, out, at);
+    put_text(b"\n", out, end)
 }

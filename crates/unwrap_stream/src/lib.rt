@@ -1,5 +1,6 @@
 // A file of outer packets from one descriptor, the packets to another and the report to a third, in blocks. What is written is decided by `unwrapping`; here bytes are
 // moved.
+use blocks::Ended;
 use blocks::Step;
 use blocks::Unread;
 use manners::Ending;
@@ -24,14 +25,6 @@ struct Turned {
     wrote: usize,
     told: usize,
     unread: Unread,
-}
-
-// After a run: how it ended, after how many turns, and where in the block.
-struct Ended {
-    ending: Ending,
-    turns: u64,
-    at: usize,
-    have: usize,
 }
 
 // One turn: the records at the start of what is unread, as many as the output has room for; and it goes on behind them.

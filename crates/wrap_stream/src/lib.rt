@@ -1,5 +1,6 @@
 // A file of timestamps and stored packets from one descriptor, the outer packets to another and the report to a third, in blocks. What is written is decided by
 // `wrapping`; here bytes are moved.
+use blocks::Ended;
 use blocks::Step;
 use blocks::Unread;
 use manners::Ending;
@@ -27,14 +28,6 @@ struct Turned {
     wrote: usize,
     told: usize,
     unread: Unread,
-}
-
-// After a run: how it ended, after how many turns, and where in the block.
-struct Ended {
-    ending: Ending,
-    turns: u64,
-    at: usize,
-    have: usize,
 }
 
 // The number of a size that payloads may not have.

@@ -3,7 +3,7 @@ use borrow.Author.Needs.{needs}
 use Prim.Native.Nat.{ℕ, _/_, _%_}
 use mathlib.Core.Path.{ap}
 use lib.Dec.{eqb}
-use Rattle.slots.proofs.Leaves.{bit-pos}
+use Rattle.octets.proofs.Sets.{bit-pos}
 use Rattle.slots.proofs.holds.Statement.{statement}
 use Rattle.slots.proofs.holds.Tie as tie
 

@@ -1,6 +1,7 @@
 -- `slots::numbers_fit` meets its contract: each way out is one case of `numbersFit`. Assumes nothing.
 use borrow.Author.Needs.{needs}
-use Rattle.slots.proofs.Leaves.{bit-pos, none-fits, spoiled-unfit, high-unfit, low-fits}
+use Rattle.octets.proofs.Sets.{bit-pos}
+use Rattle.slots.proofs.Leaves.{none-fits, spoiled-unfit, high-unfit, low-fits}
 use Rattle.slots.proofs.numbers_fit.Statement.{statement}
 use Rattle.slots.proofs.numbers_fit.Tie as tie
 

@@ -1,0 +1,9 @@
+pub mod Rows
+pub mod Laws
+pub mod Parts
+pub mod Names
+pub mod Sound
+pub mod Complete
+pub mod Steps
+pub mod Had
+pub mod Samples

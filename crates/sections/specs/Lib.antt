@@ -1,0 +1,4 @@
+pub mod Sizes
+pub mod Layout
+pub mod Walks
+pub mod Reading
