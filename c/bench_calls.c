@@ -14,7 +14,6 @@
 #include <time.h>
 
 enum {
-    LISTING = 1292,
     OUTPUT = 592,
     UNWRAPPED = 4096,
     LISTS = 1000,
@@ -27,6 +26,8 @@ enum {
 #ifdef OURS
 #include "lukasembo.h"
 #define WHO "ours"
+
+enum { LISTING = LUKASEMBO_LISTING };
 
 static inline uint64_t read_one(const uint8_t *chunk, size_t n, uint8_t *buffer)
 {
@@ -84,6 +85,8 @@ static inline size_t name_end(const uint8_t *section, size_t n, size_t which)
 #include "plain.h"
 #include "tunnel.h"
 #define WHO "plain"
+
+enum { LISTING = PLAIN_LISTING };
 
 static inline uint64_t read_one(const uint8_t *chunk, size_t n, uint8_t *buffer)
 {
@@ -226,8 +229,8 @@ static int make_sections(const char *name)
 static int make_items(const char *name)
 {
     static const uint8_t sample[] = {0x00, 0x03, 0x01, 0x23, 0x01, 0x05, 0xE0, 0x83, 0x01, 0x0A, 0x01, 0xE6};
-    static const uint8_t sample_listing[] = {0x54, 0x53, 0x01, 0x23, 0x01, 0x45, 0x4E, 0x05, 0x04,
-                                             0x03, 0x01, 0x53, 0x56, 0x0A, 0x01, 0x00, 0x03, 0x00};
+    static const uint8_t sample_listing[] = {0x54, 0x53, 0x01, 0x23, 0x01, 0x45, 0x4E, 0x05, 0x04, 0x03,
+                                             0x01, 0x53, 0x56, 0x05, 0x0A, 0x01, 0x00, 0x03, 0x00};
     static struct make_list list;
     static struct made made;
     struct make_shape shape = {0, 0, 0, 0, 1, 1};

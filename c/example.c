@@ -12,11 +12,11 @@ static const uint8_t *show_ensemble(const uint8_t *at)
 
     if (memcmp(at, "EU", 2) == 0) {
         printf("  ensemble %u: of version %u, which is not known; its services are not listed\n", at[2], at[3]);
-        return at + 4;
+        return at + LUKASEMBO_EU;
     }
     printf("  ensemble %u: SLT %d, GAT %d, EAT %d, signaling channel version %d\n", at[2], at[3] >> 2, at[3] >> 1 & 1, at[3] & 1, at[4]);
-    for (services = at[5], at += 6; services > 0; services--, at += 7)
-        printf("    service %u: multi %d, status %d, SP %d\n", at[2] * 256u + at[3], at[4], at[5], at[6]);
+    for (services = at[5], at += LUKASEMBO_EN; services > 0; services--, at += LUKASEMBO_SV)
+        printf("    service %u of ensemble %u: multi %d, status %d, SP %d\n", at[3] * 256u + at[4], at[2], at[5], at[6], at[7]);
     return at;
 }
 
@@ -36,7 +36,7 @@ static size_t show(const uint8_t *chunk, size_t length, uint8_t listing[LUKASEMB
     }
     printf("for %s frame, minor edition %u\n", lukasembo_kind(answer) == LUKASEMBO_THIS ? "this" : "the next", lukasembo_minor(answer));
     printf("transport stream %u\n", at[2] * 256u + at[3]);
-    for (ensembles = at[4], at += 5; ensembles > 0; ensembles--)
+    for (ensembles = at[4], at += LUKASEMBO_TS; ensembles > 0; ensembles--)
         at = show_ensemble(at);
     return lukasembo_length(answer);
 }

@@ -15,13 +15,13 @@ enum { INPUT, BUFFER, MEMORIES };
 /* The phases, the reader's first, and how many of 1,000 calls each has. */
 enum phase {
     LENGTHS, HEADS, SOUND, RAN_OUT, DAMAGED, DAMAGED_MORE, TOO_LONG,
-    LISTINGS, LIMITS, BAD_LISTINGS, CUTS, KINDS, LONG_LISTINGS, BAD_LISTINGS_MORE, SAMPLES, PHASES
+    LISTINGS, LIMITS, BAD_LISTINGS, BAD_IDS, CUTS, KINDS, LONG_LISTINGS, BAD_LISTINGS_MORE, SAMPLES, PHASES
 };
 static const char *const phase_name[PHASES] = {
     "lengths", "heads", "sound", "ran out", "damaged", "damaged more", "too long",
-    "listings", "limits", "bad listings", "cuts", "kinds", "long listings", "bad listings more", "samples"
+    "listings", "limits", "bad listings", "bad ids", "cuts", "kinds", "long listings", "bad listings more", "samples"
 };
-static const unsigned phase_share[PHASES] = {30, 160, 120, 80, 120, 80, 10, 100, 60, 110, 40, 15, 0, 75, 0};
+static const unsigned phase_share[PHASES] = {30, 160, 120, 80, 120, 80, 10, 90, 60, 100, 30, 40, 15, 0, 65, 0};
 
 struct call {
     int phase;
@@ -119,7 +119,7 @@ static size_t written_by(uint64_t a)
 /* The length of a record of a listing, other than the first. */
 static size_t record_length(const uint8_t *at)
 {
-    return at[0] == 'S' ? 7 : at[1] == 'U' ? 4 : 6;
+    return at[0] == 'S' ? LUKASEMBO_SV : at[1] == 'U' ? LUKASEMBO_EU : LUKASEMBO_EN;
 }
 
 /* Whether a listing has an unknown ensemble. */
@@ -127,7 +127,7 @@ static int has_unknown(const uint8_t *listing, size_t n)
 {
     size_t at;
 
-    for (at = 5; at + 4 <= n; at += record_length(listing + at))
+    for (at = LUKASEMBO_TS; at + LUKASEMBO_EU <= n; at += record_length(listing + at))
         if (listing[at] == 'E' && listing[at + 1] == 'U')
             return 1;
     return 0;
@@ -155,12 +155,12 @@ static int make_wrong(int side, uint8_t *to)
         to[13] = (uint8_t)((bits & 0xE1) | status << 3 | multi << 1);
         return 1;
     }
-    for (at = 5; at + 7 <= n; at += record_length(to + at))
-        if (to[at] == 'S' && to[at + 4] != to[at + 5]) {
-            const uint8_t multi = to[at + 4];
+    for (at = LUKASEMBO_TS; at + LUKASEMBO_SV <= n; at += record_length(to + at))
+        if (to[at] == 'S' && to[at + 5] != to[at + 6]) {
+            const uint8_t multi = to[at + 5];
 
-            to[at + 4] = to[at + 5];
-            to[at + 5] = multi;
+            to[at + 5] = to[at + 6];
+            to[at + 6] = multi;
             return 1;
         }
     return 0;
@@ -450,6 +450,21 @@ static void any_list(size_t most)
         make_unknown(&rng, &list);
 }
 
+/* Writes made; the answer, if there is room, and the segments are known. */
+static void hold_known_written(uint64_t want, const uint8_t *segments, unsigned kind)
+{
+    now.writer = 1;
+    now.kind = (uint8_t)kind;
+    now.input = made.bytes;
+    now.n = made.n;
+    now.room = any_room(&rng, LUKASEMBO_OUTPUT);
+    if (now.room < LUKASEMBO_OUTPUT)
+        want = 1;
+    now.want = &want;
+    now.want_bytes = segments;
+    hold();
+}
+
 /* Writes the listing of list, with its answer and its segments known: any kind but 0 is for this frame. */
 static void hold_written(unsigned kind)
 {
@@ -464,16 +479,7 @@ static void hold_written(unsigned kind)
         make_chunk(&rng, &list, &shape, &chunk);
         want = (uint64_t)make_segments(&rng, chunk.bytes, chunk.n, shape.kind, 1, segments) << 16;
     }
-    now.writer = 1;
-    now.kind = (uint8_t)kind;
-    now.input = made.bytes;
-    now.n = made.n;
-    now.room = any_room(&rng, LUKASEMBO_OUTPUT);
-    if (now.room < LUKASEMBO_OUTPUT)
-        want = 1;
-    now.want = &want;
-    now.want_bytes = segments[0];
-    hold();
+    hold_known_written(want, segments[0], kind);
 }
 
 static void listings(uint64_t i)
@@ -519,12 +525,31 @@ static void bad_listings(uint64_t i, unsigned times)
     hold_write(made.bytes, made.n, rng_below(&rng, 2));
 }
 
+/* A sound listing but for one id: a service's ensemble's, or that of the ensemble above it. */
+static void bad_ids(uint64_t i)
+{
+    size_t at, above = 0, wrong = 0;
+    unsigned services = 0;
+
+    do
+        make_list(&rng, &list, &written, rng_once_in(&rng, 2) ? MAKE_CHUNK + 20 : 12 + rng_below(&rng, 100));
+    while (list.services == 0);
+    make_listing(&list, &made);
+    for (at = LUKASEMBO_TS; at < made.n; at += record_length(made.bytes + at))
+        if (made.bytes[at] == 'E')
+            above = at;
+        else if (rng_once_in(&rng, ++services))
+            wrong = i % 4 == 0 ? above : at;
+    made.bytes[wrong + 2] ^= (uint8_t)(1 + i % 255);
+    hold_known_written(LUKASEMBO_BAD_LISTING, NULL, rng_below(&rng, 2));
+}
+
 /* Every cut of one listing after another; in between, any bytes of that length. */
 static void cuts(uint64_t i)
 {
     static struct made whole;
     static size_t n;
-    static uint8_t any[2048];
+    static uint8_t any[LUKASEMBO_LISTING];
 
     if (i == 0 || n > whole.n) {
         any_list(12 + rng_below(&rng, 548));
@@ -569,8 +594,11 @@ static void long_listings(uint64_t i)
     make_listing(&list, &made);
     if (i % 3 == 1)
         make_damage_listing(&rng, &made, rng_below(&rng, MAKE_LISTING_DAMAGES));
-    else if (i % 3 == 2)
-        made.bytes[made.n - 1 - rng_below(&rng, 3)] ^= 4;
+    else if (i % 3 == 2) {
+        static const uint8_t behind[] = {1, 2, 3, LUKASEMBO_SV - 2}; /* SP, status, multi, the ensemble's id */
+
+        made.bytes[made.n - behind[rng_below(&rng, sizeof behind)]] ^= 4;
+    }
     hold_write(made.bytes, made.n, rng_below(&rng, 2));
 }
 
@@ -591,21 +619,23 @@ static size_t from_hex(const char *hex, uint8_t *to)
 
 static void samples(void)
 {
-    static const char listing[] = "5453 0123 01 454E 05 04 03 01 5356 0A01 00 03 00", unknown[] = "5453 0123 01 4555 05 01";
+    static const char listing[] = "5453 0123 01 454E 05 04 03 01 5356 05 0A01 00 03 00", unknown[] = "5453 0123 01 4555 05 01";
     static const struct {
         const char *chunk;
-        uint64_t want;
+        uint64_t want; /* but for the listing's length */
         const char *listing;
     } read[] = {
-        {"00 03 01 23 01 05 E0 83 01 0A 01 E6", 18 << 16 | 1 << 8, listing},
-        {"09 43 01 23 AA 01 05 E0 83 BB CC 01 0A 01 E6", 18 << 16 | 1 << 9 | 1 << 8, listing},
-        {"00 03 01 23 00", 5 << 16 | 1 << 8, "54 53 01 23 00"},
+        {"00 03 01 23 01 05 E0 83 01 0A 01 E6", 1 << 8, listing},
+        {"09 43 01 23 AA 01 05 E0 83 BB CC 01 0A 01 E6", 1 << 9 | 1 << 8, listing},
+        {"00 03 01 23 00", 1 << 8, "54 53 01 23 00"},
         {"00 03 01 23", 9, ""},
         {"", 9, ""},
         {"40", 9, ""},
         {"40 03", 5, ""},
         {"00 03 01 23 01", (uint64_t)5 << 32 | 9, ""},
-        {"00 03 01 23 01 05 E1 83 01 0A 01 E6", 9 << 16 | 1 << 8, unknown},
+        {"00 03 01 23 01 05 E1 83 01 0A 01 E6", 1 << 8, unknown},
+        {"00 03 01 23 03 05 E0 83 00 06 E1 83 01 0A 01 E6 07 E0 83 01 05 06 E6", 1 << 8,
+         "5453 0123 03 454E 05 04 03 00 4555 06 01 454E 07 04 03 01 5356 07 0506 00 03 00"},
         {"00 03 01 23 01 05 E1 83 01 0A 01", (uint64_t)9 << 32 | 9, ""},
         {"00 03 01 23 01 05 E0 83 01 0A 01", (uint64_t)9 << 32 | 9, ""},
         {"00 03", 9, ""},
@@ -613,19 +643,28 @@ static void samples(void)
         {"02 03 01 23 00 00 01 05 E0", (uint64_t)7 << 32 | 9, ""},
         {"02 07 01 23 00 00 01 05 E0 83 03 0A 01 E6 DD 0A 02 E6", (uint64_t)15 << 32 | 9, ""},
     };
+    static const char *const bad[] = {
+        unknown,
+        "5453 0123 01 454E 05 04 03 01 5356 0A 0A01 00 03 00",
+        "5453 0123 01 454E 0A 04 03 01 5356 05 0A01 00 03 00",
+        "5453 0123 01 454E 05 04 03 01 5356 0A01 00 03 00", /* as it was before a service had its ensemble's id */
+    };
     uint8_t input[64], want[64];
+    uint64_t due;
     size_t i, n;
 
     now.writer = 0;
     now.kind = 0;
     now.input = input;
     for (i = 0; i < 2 * sizeof read / sizeof *read; i++) {
-        static const uint64_t one = 1;
-
         now.n = from_hex(read[i / 2].chunk, input);
-        from_hex(read[i / 2].listing, want);
-        now.room = i % 2 == 0 ? LUKASEMBO_LISTING : LUKASEMBO_LISTING - 1;
-        now.want = i % 2 == 0 ? &read[i / 2].want : &one;
+        due = read[i / 2].want | (uint64_t)from_hex(read[i / 2].listing, want) << 16;
+        now.room = LUKASEMBO_LISTING;
+        if (i % 2 == 1) {
+            now.room--;
+            due = 1;
+        }
+        now.want = &due;
         now.want_bytes = want;
         hold();
     }
@@ -635,14 +674,14 @@ static void samples(void)
     now.room = LUKASEMBO_OUTPUT;
     n = from_hex("32 00 00 03 01 23 01 05 E0 83 01 0A 01 E6", want);
     memset(want + n, 0xFF, 23);
-    {
-        static const uint64_t one_segment = 1 << 16, bad_listing = 13;
-
-        now.want = &one_segment;
-        now.want_bytes = want;
-        hold();
-        now.n = from_hex(unknown, input);
-        now.want = &bad_listing;
+    due = 1 << 16;
+    now.want = &due;
+    now.want_bytes = want;
+    hold();
+    for (i = 0; i < sizeof bad / sizeof *bad; i++) {
+        now.n = from_hex(bad[i], input);
+        due = 13;
+        now.want = &due;
         hold();
     }
 }
@@ -666,6 +705,7 @@ static void run_phase(int phase, uint64_t n)
         case LISTINGS: listings(i); break;
         case LIMITS: limits(i); break;
         case BAD_LISTINGS: bad_listings(i, 1); break;
+        case BAD_IDS: bad_ids(i); break;
         case CUTS: cuts(i); break;
         case KINDS: kinds(i); break;
         case LONG_LISTINGS: long_listings(i); break;

@@ -187,6 +187,7 @@ static uint8_t *list_known(const struct make_ensemble *ensemble, const struct ma
     for (i = 0; i < ensemble->services; i++, service++) {
         *at++ = 0x53;
         *at++ = 0x56;
+        *at++ = ensemble->id;
         *at++ = (uint8_t)(service->id >> 8);
         *at++ = (uint8_t)service->id;
         *at++ = service->multi;
@@ -250,6 +251,11 @@ static void set(struct made *m, size_t at, unsigned value)
 {
     if (at < m->n)
         m->bytes[at] = (uint8_t)value;
+}
+
+static unsigned get(const struct made *m, size_t at)
+{
+    return at < m->n ? m->bytes[at] : 0;
 }
 
 static void cut_out(struct made *m, size_t at, size_t length)
@@ -342,29 +348,57 @@ void make_damage_chunk(struct rng *r, struct made *m, unsigned which)
     }
 }
 
-/* An ensemble of a listing: its record, that one's length, one of its services, and the length of all of these.
-   What is not there is at m->n. */
+/* An ensemble of a listing: its record, that one's length, one of its services, the length of all of these, and the
+   record of the ensemble before. What is not there is at m->n. */
 struct pick {
-    size_t ensemble, record, service, services;
+    size_t ensemble, record, service, services, before;
 };
 
-static struct pick pick_ensemble(struct rng *r, const struct made *m)
+static struct pick the_ensemble(const struct made *m, unsigned i)
 {
-    struct pick p = {m->n, 6, m->n, 0};
-    unsigned i, count;
+    struct pick p = {m->start[i], 6, m->n, m->start[i + 1] - m->start[i], i > 0 ? m->start[i - 1] : m->n};
 
-    if (m->ensembles == 0)
-        return p;
-    i = rng_below(r, m->ensembles);
-    p.ensemble = m->start[i];
-    p.services = m->start[i + 1] - m->start[i];
     if (p.services < p.record) /* EU */
         p.record = 4;
     p.services -= p.record;
-    count = (unsigned)(p.services / 7);
-    if (count > 0)
-        p.service = p.ensemble + p.record + 7 * (size_t)(rng_once_in(r, 4) ? count - 1 : rng_below(r, count));
     return p;
+}
+
+static struct pick pick_ensemble(struct rng *r, const struct made *m)
+{
+    struct pick p = {m->n, 6, m->n, 0, m->n};
+    unsigned count;
+
+    if (m->ensembles == 0)
+        return p;
+    p = the_ensemble(m, rng_below(r, m->ensembles));
+    count = (unsigned)(p.services / MAKE_SV);
+    if (count > 0)
+        p.service = p.ensemble + p.record + MAKE_SV * (size_t)(rng_once_in(r, 4) ? count - 1 : rng_below(r, count));
+    return p;
+}
+
+/* The ensemble ids of the services that stand there, so many bytes of them: set, or cut out. */
+static void set_ids(struct made *m, size_t at, size_t length, unsigned id)
+{
+    const size_t end = at + length;
+
+    for (; at < end; at += MAKE_SV)
+        set(m, at + 2, id);
+}
+
+static void cut_ids(struct made *m, size_t at, size_t length)
+{
+    size_t to = at, i;
+
+    if (at >= m->n)
+        return;
+    if (length > m->n - at)
+        length = m->n - at;
+    for (i = 0; i < length; i++)
+        if (i % MAKE_SV != 2)
+            m->bytes[to++] = m->bytes[at + i];
+    cut_out(m, to, at + length - to);
 }
 
 void make_damage_listing(struct rng *r, struct made *m, unsigned which)
@@ -392,21 +426,41 @@ void make_damage_listing(struct rng *r, struct made *m, unsigned which)
 
         i = rng_below(r, 5);
         count = rng_below(r, 4);
-        set(m, i < 2 ? p.ensemble + 3 + i : p.service + 2 + i,
+        set(m, i < 2 ? p.ensemble + 3 + i : p.service + 3 + i,
             count < 2 ? limits[i] + 1u : count == 2 ? 0x80u : limits[i] + 1u + rng_below(r, 255u - limits[i]));
         break;
     }
     case 9:
         i = rng_below(r, 4);
         if (i < 2)
-            cut_out(m, i == 0 ? p.ensemble : p.service, i == 0 ? p.record : 7);
+            cut_out(m, i == 0 ? p.ensemble : p.service, i == 0 ? p.record : MAKE_SV);
         else
-            put_twice(m, i == 2 ? p.ensemble : p.service, i == 2 ? p.record : 7);
+            put_twice(m, i == 2 ? p.ensemble : p.service, i == 2 ? p.record : MAKE_SV);
         break;
     case 10: /* its services cut out or left */
         set(m, p.ensemble + 1, 0x55);
         set(m, p.ensemble + 3, 1 + rng_edge(r, 30));
         cut_out(m, p.ensemble + 4, p.record - 4 + (rng_once_in(r, 2) ? p.services : 0));
+        break;
+    case 11: /* the ensemble's before, the high byte of the service's own, any */
+        i = rng_below(r, 3);
+        set(m, p.service + 2, i == 0 ? get(m, p.before + 2) : i == 1 ? get(m, p.service + 3) : rng_below(r, 256));
+        break;
+    case 12: change(r, m, p.ensemble + 2); break;
+    case 13:
+        change(r, m, p.ensemble + 2);
+        set_ids(m, p.ensemble + p.record, p.services, get(m, p.ensemble + 2));
+        break;
+    case 14: /* of one, of an ensemble's, of all */
+        i = rng_below(r, 3);
+        if (i < 2)
+            cut_ids(m, i == 0 ? p.service : p.ensemble + p.record, i == 0 ? MAKE_SV : p.services);
+        else
+            for (count = m->ensembles; count > 0; count--) {
+                const struct pick each = the_ensemble(m, count - 1);
+
+                cut_ids(m, each.ensemble + each.record, each.services);
+            }
         break;
     default: damage(r, m, which); break;
     }

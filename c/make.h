@@ -14,10 +14,11 @@ enum {
     MAKE_PLACES = 16,
     MAKE_ENSEMBLES = 255,
     MAKE_SERVICES = 255 * 255,
-    MAKE_LISTING = 5 + 255 * (6 + 7 * 255), /* the longest that counts of 255 allow */
-    MAKE_ROOM = MAKE_LISTING + 4096,        /* and what a damage may append */
+    MAKE_SV = 8,        /* a service's record in a listing */
+    MAKE_LISTING = 5 + 255 * (6 + MAKE_SV * 255), /* the longest that counts of 255 allow */
+    MAKE_ROOM = MAKE_LISTING + 4096,              /* and what a damage may append */
     MAKE_CHUNK_DAMAGES = 10,
-    MAKE_LISTING_DAMAGES = 11
+    MAKE_LISTING_DAMAGES = 15
 };
 
 struct make_ensemble {
@@ -80,7 +81,9 @@ void make_listing(const struct make_list *list, struct made *to);
    0 a byte changed, 1 several bytes changed, 2 a byte cut out, 3 a cut at the end, 4 bytes appended,
    5 the number of ensembles and 6 a number of services raised or lowered;
    for a chunk 7 a version set, 8 the major set, 9 an extension length or the kind changed;
-   for a listing 7 a mark broken, 8 a field over its limit, 9 a record cut out or doubled, 10 an ensemble made unknown. */
+   for a listing 7 a mark broken, 8 a field over its limit, 9 a record cut out or doubled, 10 an ensemble made unknown,
+   11 a service's ensemble id changed, 12 an ensemble's id changed, 13 that and its services' changed alike, so that a sound
+   listing stays so, 14 ensemble ids cut out of services, as these had none before. */
 void make_damage_chunk(struct rng *r, struct made *chunk, unsigned which);
 void make_damage_listing(struct rng *r, struct made *listing, unsigned which);
 

@@ -36,10 +36,11 @@
  *     54 53 "TS"   transport stream id (2), number of ensembles                                               5 bytes, once
  *     45 4E "EN"   id, flags (4 SLT + 2 GAT + EAT), signaling channel version (0 to 31), number of services   6 bytes, each ensemble of version 0
  *     45 55 "EU"   id, version (1 to 31)                                                                      4 bytes, each of another version
- *     53 56 "SV"   id (2), multi (0 to 3), status (0 to 3), SP (0 or 1)                                       7 bytes, each service of an EN
+ *     53 56 "SV"   ensemble id, id (2), multi (0 to 3), status (0 to 3), SP (0 or 1)                          8 bytes, each service of an EN
  *
- * The order is the chunk's: TS, then each EN with its SVs right after it, or EU. The number in TS counts both. An EU says: the relay sends an ensemble
- * of a version that this library does not know, and its services are not listed.
+ * The order is the chunk's: TS, then each EN with its SVs right after it, or EU. The number in TS counts both. The ensemble id in an SV is the id of the EN
+ * above it, so that a service tells its ensemble wherever its record goes. An EU says: the relay sends an ensemble of a version that this library does not
+ * know, and its services are not listed.
  *
  * The tunnel (ATSC A/324, 6.3). Outer packets, of 12 to LUKASEMBO_OUTER bytes, carry inner IPv4 packets end to end, split where they fall. A call takes one
  * outer packet. Lent to it are the reader's state, which keeps the part of an inner packet that goes on in the next outer packet, and an output, to whose
@@ -116,7 +117,8 @@ enum lukasembo_number {
     LUKASEMBO_OTHER_MAJOR = 5,    /* R: the major version is not 0 */
     LUKASEMBO_TOO_LONG = 8,       /* R: a chunk over LUKASEMBO_CHUNK bytes */
     LUKASEMBO_ENDS_EARLY = 9,     /* R: a chunk ends too early; lukasembo_offset tells where it ran out */
-    LUKASEMBO_BAD_LISTING = 13,   /* W: marks, counts and length do not agree, a field is over its limit, or there is an EU */
+    LUKASEMBO_BAD_LISTING = 13,   /* W: marks, counts and length do not agree, a field is over its limit, a service's ensemble id is not that of the EN above it, or
+                                   * there is an EU */
     LUKASEMBO_TOO_MANY = 14,      /* W: the chunk, 5 + 4 x ensembles + 3 x services bytes, would be over LUKASEMBO_CHUNK */
     LUKASEMBO_BAD_STORE = 15,     /* S: an unknown mark, a record that is cut short, or a length outside the limits */
     LUKASEMBO_FOREIGN_OUTER = 16, /* T: under 12 bytes or over LUKASEMBO_OUTER, not version 2, with padding, extension or CSRC, not payload type 97 */
@@ -137,7 +139,11 @@ enum {
     LUKASEMBO_PAYLOAD = 35,    /* its payload */
     LUKASEMBO_SEGMENT = 37,    /* a segment */
     LUKASEMBO_CHUNK = 560,     /* the longest chunk: 16 payloads */
-    LUKASEMBO_LISTING = 1292,  /* the longest listing of one; no shorter buffer is taken for it */
+    LUKASEMBO_LISTING = 1475,  /* the longest listing of one; no shorter buffer is taken for it */
+    LUKASEMBO_TS = 5,          /* a listing's records, by their marks: how long each is */
+    LUKASEMBO_EN = 6,
+    LUKASEMBO_EU = 4,
+    LUKASEMBO_SV = 8,
     LUKASEMBO_OUTPUT = 592,    /* the segments of the longest chunk; no shorter output is taken */
     LUKASEMBO_OUTER = 1500,    /* the longest outer packet */
     LUKASEMBO_PACKET = 1500,   /* the longest inner packet; the shortest is 28 */
@@ -193,7 +199,7 @@ uint64_t lukasembo_read(const uint8_t *chunk, size_t chunk_length, uint8_t *buff
 
 /* Writes the segments of a whole listing, as a chunk of minor edition 0, for this frame (true, LUKASEMBO_THIS) or the next (false, LUKASEMBO_NEXT). They
  * go to the start of the output and bytes past them stay; a refusal writes nothing. Refusals, in the order of the checks: 1, 13, 14. A listing
- * with EU is refused with 13.
+ * with EU is refused with 13, and so is one with a service whose ensemble id is not that of the EN above it.
  * The compiler makes 0 or 1 of what is given for a bool, so that a segment's seg[0] & 2 is a kind as it stands. (The function itself has a u8 there,
  * which x86-64 passes in the same way.) */
 uint64_t lukasembo_write(const uint8_t *listing, size_t listing_length, bool kind, uint8_t *output, size_t output_length);

@@ -1,5 +1,5 @@
 #!/usr/bin/env python3
-"""Prints what crates/desk_samples must write: document 01's desk, in Python.
+"""Prints what crates/desk_samples must write: the desk of documents 01 and 02, in Python.
 
     python3 tests/desk_samples.py > crates/desk_samples/stdout
 
@@ -11,9 +11,9 @@ import sys
 sys.dont_write_bytecode = True
 
 from log import Desk
+from reader import LONGEST, ROOM
 
-ROOM = 1300
-LONGEST = 1292
+SHORT = LONGEST - 1
 BEFORE = b"\xa5"
 
 
@@ -110,20 +110,20 @@ def first_calls():
     for n in 0, 1, 36, 38, 37, 38:
         bench.seg(f"{n} byte{'s' * (n != 1)}", (SAMPLE + b"\xff")[:n])
     bench = Bench()
-    for m, n in (1291, 1292), (1292, 1291), (0, 1292), (1292, 0), (0, 0), (1292, 1292):
+    for m, n in (SHORT, LONGEST), (LONGEST, SHORT), (0, LONGEST), (LONGEST, 0), (0, 0), (LONGEST, LONGEST):
         bench.seg(f"buffers of {m}, {n}", SAMPLE, m, n)
-    for m, n in (1291, 1292), (1292, 1291), (1300, 1300):
+    for m, n in (SHORT, LONGEST), (LONGEST, SHORT), (ROOM, ROOM):
         bench.seg(f"then of {m}, {n}", SAMPLE, m, n)
-    for m, n in (1300, 1300), (1292, 1300):
+    for m, n in (ROOM, ROOM), (LONGEST, ROOM):
         Bench().seg(f"buffers of {m}, {n}", SAMPLE, m, n)
     bad, typed = Bench(good=False), made("7200", THIS)
-    bad.seg("bad desk, short buffers", typed, 1291, 1291).seg("bad desk, 36 bytes", typed[:36])
-    bench = Bench().seg("short buffers, 36 bytes", typed[:36], 1300, 1291)
-    bench.seg("short buffers, 72 00", typed, 1291, 1300).seg("36 bytes, 72 00", typed[:36])
+    bad.seg("bad desk, short buffers", typed, SHORT, SHORT).seg("bad desk, 36 bytes", typed[:36])
+    bench = Bench().seg("short buffers, 36 bytes", typed[:36], ROOM, SHORT)
+    bench.seg("short buffers, 72 00", typed, SHORT, ROOM).seg("36 bytes, 72 00", typed[:36])
 
 
 def written_out():
-    for shown, coming in (5, 1292), (1292, 0):
+    for shown, coming in (5, LONGEST), (LONGEST, 0):
         tried(f"listings of {shown}, {coming}", Bench(shown, coming))
     for name, last, held, spoiled in [
         ("holds 15 of 15", 15, {15: b"\x01" + bytes(34)}, False), ("holds 0 of 1", 1, {0: bytes(34) + b"\x01"}, False),
@@ -131,7 +131,7 @@ def written_out():
     ]:
         for kind in "this", "next":
             tried(name, slotted(kind, last, dict(held), spoiled))
-    for lengths in "3, 5", "5, 3", "4, 0", "0, 1", "1293, 5", "5, 1293":
+    for lengths in "3, 5", "5, 3", "4, 0", "0, 1", f"{LONGEST + 1}, 5", f"5, {LONGEST + 1}":
         tried(f"listings of {lengths}", Bench(good=False))
     for name in (
         "last 16", "last 255", "holds 2 above 1", "holds 15 above 14", "empty, last 1", "empty, a byte at 0", "empty, a byte at 559",

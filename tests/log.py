@@ -1,5 +1,5 @@
 #!/usr/bin/env python3
-"""Prints what the log program must write: document 01's desk and log once more, in Python, from the documents alone.
+"""Prints what the log program must write: the desk and log of documents 01 and 02 once more, in Python, from the documents alone.
 
     python3 tests/log.py < LOG
 """
@@ -7,9 +7,7 @@ import sys
 
 sys.dont_write_bytecode = True
 
-from reader import read
-
-ROOM = 1292
+from reader import LONGEST, read
 
 
 class Slot:
@@ -65,7 +63,7 @@ class Desk:
         missing = last + 1 - len(slot.held)
         if repeat or missing:
             return 0, f"missing {missing}"
-        refusal, chunk_kind, _, listing, at = read(b"".join(slot.held[i] for i in range(last + 1)), ROOM)
+        refusal, chunk_kind, _, listing, at = read(b"".join(slot.held[i] for i in range(last + 1)), LONGEST)
         if refusal:
             return refusal, f"at {at}" if refusal == 9 else ""
         if chunk_kind != kind:

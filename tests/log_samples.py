@@ -21,10 +21,10 @@ from pieces import Dice, bent, chance, chunk, cut, fr, gives, listing, miss, no,
 
 CRATES = pathlib.Path(__file__).resolve().parent.parent / "crates"
 SAMPLE = bytes.fromhex("5347 3000 0002012301 05E08301 0A01E6" + 23 * "FF" + "4652 4652")
-SAMPLE_PRINTS = """SG 0 list next 18
-5453012301454e0504030153560a01000300
-FR 18
-5453012301454e0504030153560a01000300
+SAMPLE_PRINTS = """SG 0 list next 19
+5453012301454e050403015356050a01000300
+FR 19
+5453012301454e050403015356050a01000300
 FR none
 END 0
 """

@@ -54,7 +54,7 @@ def listing(what):
             continue
         out += struct.pack(">2sBBBB", b"EN", ident, flags, channel, len(services))
         for service in services:
-            out += struct.pack(">2sHBBB", b"SV", *service)
+            out += struct.pack(">2sBHBBB", b"SV", ident, *service)
     return out
 
 

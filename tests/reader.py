@@ -5,12 +5,15 @@
 """
 import struct
 
+LONGEST = 1475  # the longest listing
+ROOM = 1500     # of a buffer that has room for more
+
 
 def read(chunk, room):
     """The reader's answer: (number, kind, minor, listing, at), at being for number 9 where the first thing that doesn't fit begins."""
     def refused(number, at=0):
         return number, None, 0, b"", at
-    if room < 1292:
+    if room < LONGEST:
         return refused(1)
     if len(chunk) > 560:
         return refused(8)
@@ -34,15 +37,15 @@ def read(chunk, room):
             service = chunk[at:at + 3 + s]
             if len(service) < 3 + s:
                 return refused(9, at)
-            ident, bits = struct.unpack(">HB", service[:3])
+            service_id, bits = struct.unpack(">HB", service[:3])
             # those of an unknown ensemble are walked over
             if not version:
-                out += b"SV" + struct.pack(">HBBB", ident, bits >> 3 & 3, bits >> 1 & 3, bits & 1)
+                out += b"SV" + struct.pack(">BHBBB", ident, service_id, bits >> 3 & 3, bits >> 1 & 3, bits & 1)
             at += 3 + s
     return 0, "this" if current else "next", minor, out, 0
 
 
-def show(name, chunk, room=1292):
+def show(name, chunk, room=LONGEST):
     number, kind, minor, listing, at = read(chunk, room)
     words = [name, str(number)]
     if number == 9:
@@ -90,10 +93,11 @@ def main():
         ("h 2, s 1, a middle service cut", "020701230000 0105E08303 0A01E6DD 0A02E6"),
         ("s 7, the last service cut in its extension", "001F01230105E08302 0A01E600000000000000 0A02E6000000000000"),
         ("second of version 9, its second service cut", "0003012302 05E08301 0A01E6 06E98302 0B01E6 0B02"),
+        ("services of three ensembles", "0003012303 05E08301 0A01E6 06E08302 0B01E6 0B02E6 07E08301 0C01E6"),
     ]:
         show(name, bytes.fromhex(text))
     one = header(0, 0, 0, 1) + ensemble(5, 0, 0, 183)
-    assert len(one) == 558
+    assert len(one) == 558 and len(read(one, LONGEST)[3]) == LONGEST
     show("183 services", one)
     show("183 services, cut", one[:-1])
     more = header(0, 0, 0, 1) + ensemble(5, 0, 0, 184)
@@ -118,9 +122,9 @@ def main():
     show("extensions 7, the first unknown", header(7, 7, 7, 8) + trial(0, 7, 7, 4) + seven)
     for n in range(550):
         show("stuffing", FIRST + bytes([n % 256]) * n)
-    for room in (0, 1291, 1292, 1400):
+    for room in (0, LONGEST - 1, LONGEST, ROOM):
         show(f"buffer of {room}", FIRST, room)
-    show("buffer of 1291, chunk of 561", FIRST + bytes(549), 1291)
+    show(f"buffer of {LONGEST - 1}, chunk of 561", FIRST + bytes(549), LONGEST - 1)
 
 
 if __name__ == "__main__":

@@ -1,5 +1,5 @@
 #!/usr/bin/env python3
-"""Makes the stored texts and what the program write must answer to them, from docs/WRITE.md and document 01's writer in tests/writer.py.
+"""Makes the stored texts and what the program write must answer to them, from docs/WRITE.md and the writer in tests/writer.py.
 
     python3 tests/typed.py
 
@@ -11,7 +11,7 @@ import sys
 
 sys.dont_write_bytecode = True
 
-from writer import ENOUGH, FIRST, TWO, UNKNOWN, but, made, sized, write
+from writer import ENOUGH, FIRST, OLD_FORM, TWO, UNKNOWN, but, made, sized, write
 
 CRATES = pathlib.Path(__file__).resolve().parent.parent / "crates"
 UNCLEAR = b"write: not the word this or next, a space, and a listing in hex\n"
@@ -35,12 +35,11 @@ def answer(text):
     return b"".join(b"SG" + segment for segment in segments), 0
 
 
-LONGEST = made(183)
 TEXTS = {
     "first_this": typed("this", FIRST), "first_next": typed("next", FIRST), "capitals": typed("this", FIRST).replace(b"4e", b"4E"),
     "no_newline": typed("next", FIRST, ""), "no_ensemble": typed("this", FIRST[:4] + b"\x00"), "two_ensembles": typed("next", TWO),
     # 15 and 16 segments, full and not
-    "longest_this": typed("this", LONGEST), "longest_next": typed("next", LONGEST), "full_16": typed("this", sized(560)),
+    "longest_this": typed("this", made(183)), "longest_next": typed("next", made(183)), "full_16": typed("this", sized(560)),
     "full_15": typed("next", sized(525)), "one_more": typed("this", sized(526)), "ensembles_138": typed("this", made(*[0] * 138)),
     # 14
     "services_184": typed("this", made(184)), "ensembles_139": typed("next", made(*[0] * 139)),
@@ -48,7 +47,8 @@ TEXTS = {
     # 13, also where 14 would be
     "no_listing": typed("this", b""), "cut": typed("next", TWO[:-1]), "trailing": typed("this", TWO + b"\x00"),
     "flags_8": typed("this", but(TWO, (8, 8))), "unknown_ensemble": typed("this", UNKNOWN),
-    "services_184_SP_2": typed("next", made(184)[:-1] + b"\x02"),
+    "services_184_SP_2": typed("next", made(184)[:-1] + b"\x02"), "old_form": typed("this", OLD_FORM),
+    "other_ensemble": typed("next", but(TWO, (35, 0x2B))),
     # no text of the form
     "empty": b"", "word_alone": b"this", "no_space": b"this5453", "capital_word": b"This 5453\n", "odd": b"this 545\n",
     "no_digit": b"next 54g3\n", "space_after": b"this 5453 \n", "two_newlines": b"this 5453\n\n", "newline_alone": b"\n",

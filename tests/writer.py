@@ -1,5 +1,5 @@
 #!/usr/bin/env python3
-"""Prints what crates/writer_samples must write: document 01's writer once more, in Python, from the documents alone.
+"""Prints what crates/writer_samples must write: the writer of documents 01 and 02 once more, in Python, from the documents alone.
 
     python3 tests/writer.py > crates/writer_samples/stdout
 
@@ -11,6 +11,7 @@ import sys
 sys.dont_write_bytecode = True
 
 from log import Desk
+from reader import LONGEST
 
 ENOUGH = 592
 ROOM = 640
@@ -40,7 +41,9 @@ def parsed(listing):
         (ident, flags, channel, number), rest = record(rest, b"EN", ">xxBBBB", 255, 7, 31)
         services = []
         for _ in range(number):
-            service, rest = record(rest, b"SV", ">xxHBBB", 65535, 3, 3, 1)
+            (of, *service), rest = record(rest, b"SV", ">xxBHBBB", 255, 65535, 3, 3, 1)
+            if of != ident:
+                raise Malformed
             services.append(service)
         ensembles.append((ident, flags, channel, services))
     if rest:
@@ -66,7 +69,7 @@ def chunk(ts, ensembles, current):
 
 
 def write(listing, kind, room):
-    """The answer of document 01's writer: its number and the segments."""
+    """The writer's answer: its number and the segments."""
     if room < 592:
         return 1, []
     try:
@@ -111,7 +114,7 @@ def header(count):
 def ensemble(ident, services):
     """An ensemble with its services, whose fields go round with different periods."""
     out = b"EN" + bytes([ident, (ident * 3 + 4) % 8, (ident * 7 + 3) % 32, services])
-    return out + b"".join(b"SV" + bytes([127 - ident % 128, i, i % 4, (i % 7 + 3) % 4, i % 3 % 2]) for i in range(services))
+    return out + b"".join(b"SV" + bytes([ident, 127 - ident % 128, i, i % 4, (i % 7 + 3) % 4, i % 3 % 2]) for i in range(services))
 
 
 def made(*services):
@@ -139,10 +142,12 @@ def unknown(ident, version):
     return b"EU" + bytes([ident, version])
 
 
-FIRST = bytes.fromhex("5453 0123 01 454E 05 04 03 01 5356 0A01 00 03 00")
-LIKE_MARKS = bytes.fromhex("5453 5356 01 454E 54 05 13 02 5356 454E 01 02 00 5356 5356 02 01 01")
+FIRST = bytes.fromhex("5453 0123 01 454E 05 04 03 01 5356 05 0A01 00 03 00")
+# as it was before a service carried its ensemble
+OLD_FORM = bytes.fromhex("5453 0123 01 454E 05 04 03 01 5356 0A01 00 03 00")
+LIKE_MARKS = bytes.fromhex("5453 5356 01 454E 54 05 13 02 5356 54 454E 01 02 00 5356 54 5356 02 01 01")
 TWO = header(2) + ensemble(0x2B, 2) + ensemble(0x9D, 1)
-MARKS_OF_TWO = 0, 5, 11, 18, 25, 31
+MARKS_OF_TWO = 0, 5, 11, 19, 27, 33
 UNKNOWN = FIRST[:5] + unknown(5, 1)
 
 
@@ -154,6 +159,7 @@ def samples(kind):
     show("empty", kind, b"")
     show("ids like marks", kind, LIKE_MARKS)
     show("two ensembles", kind, TWO)
+    show("old form", kind, OLD_FORM)
     show("an unknown ensemble", kind, UNKNOWN)
     show("an unknown ensemble between", kind, header(3) + ensemble(0x2B, 2) + unknown(6, 1) + ensemble(0x9D, 1))
 
@@ -171,6 +177,7 @@ def longest(kind):
     show("255 ensembles, cut", kind, made(*[0] * 255)[:-1])
     show("255 ensembles, trailing byte", kind, made(*[0] * 255) + b"\x00")
     show("184 services, last SP 2", kind, made(184)[:-1] + b"\x02")
+    show("184 services, last of ensemble 1", kind, but(made(184), (len(made(184)) - 6, 1)))
 
 
 def lengths(kind):
@@ -191,8 +198,8 @@ def counts(kind):
     for name, edits in [
         ("no ensemble of 2", [(4, 0)]), ("1 ensemble of 2", [(4, 1)]), ("3 ensembles of 2", [(4, 3)]), ("255 ensembles of 2", [(4, 255)]),
         ("no service of 2", [(10, 0)]), ("1 service of 2", [(10, 1)]), ("3 services of 2", [(10, 3)]), ("255 services of 2", [(10, 255)]),
-        ("no service of 1", [(30, 0)]), ("2 services of 1", [(30, 2)]), ("255 services of 1", [(30, 255)]),
-        ("1 and 2 services of 2 and 1", [(10, 1), (30, 2)]), ("3 and 0 services of 2 and 1", [(10, 3), (30, 0)]),
+        ("no service of 1", [(32, 0)]), ("2 services of 1", [(32, 2)]), ("255 services of 1", [(32, 255)]),
+        ("1 and 2 services of 2 and 1", [(10, 1), (32, 2)]), ("3 and 0 services of 2 and 1", [(10, 3), (32, 0)]),
     ]:
         show(name, kind, but(TWO, *edits))
     for name, more in [
@@ -217,11 +224,24 @@ def raised(kind):
 
 def fields(kind):
     for name, most, places in [
-        ("flags", 7, (8, 28)), ("channel version", 31, (9, 29)), ("multi", 3, (15, 35)), ("status", 3, (16, 36)), ("SP", 1, (17, 37)),
+        ("flags", 7, (8, 30)), ("channel version", 31, (9, 31)), ("multi", 3, (16, 38)), ("status", 3, (17, 39)), ("SP", 1, (18, 40)),
     ]:
         for at in places:
             for value in *range(most + 2), 255:
                 show(f"{name} at {at} {value}", kind, but(TWO, (at, value)))
+
+
+def owners(kind):
+    # 84 and 98 are the first bytes of the services' ids
+    for at in 13, 21, 35:
+        for value in 0x2B, 0x9D, 84, 98, 0, 255:
+            show(f"ensemble at {at} {value}", kind, but(TWO, (at, value)))
+    for at in 7, 29:
+        for value in 0x2B, 0x9D, 0, 255:
+            show(f"id at {at} {value}", kind, but(TWO, (at, value)))
+    # with 0x9D there are two ensembles of one id
+    for value in 0x9D, 0, 255:
+        show(f"first renamed {value}", kind, but(TWO, (7, value), (13, value), (21, value)))
 
 
 def cuts(kind):
@@ -232,8 +252,10 @@ def cuts(kind):
 def main():
     number, segments = write(FIRST, "this", ENOUGH)
     assert (number, b"".join(segments)) == (0, bytes.fromhex("3200 0003 0123 01 05E083 01 0A01E6" + 23 * "FF"))
+    assert b"".join(TWO[at:at + 2] for at in MARKS_OF_TWO) == b"TSENSVSVENSV" and len(TWO) == 41
+    assert len(made(183)) == LONGEST
     for kind in "this", "next":
-        for cases in samples, longest, lengths, outputs, counts, marks, raised, fields, cuts:
+        for cases in samples, longest, lengths, outputs, counts, marks, raised, fields, owners, cuts:
             cases(kind)
 
 

@@ -53,7 +53,7 @@ static int check_chunk(const uint8_t *chunk, size_t n, struct chunk_facts *facts
             return 9;
         }
         services = at[f.ensemble - 1];
-        length += (at[1] & 0x1F) == 0 ? 6 + 7 * services : 4; /* EN with its SVs, or EU */
+        length += (at[1] & 0x1F) == 0 ? 6 + PLAIN_SV * services : 4; /* EN with its SVs, or EU */
         at += f.ensemble;
         left -= f.ensemble;
         loop = services * f.service;
@@ -84,13 +84,13 @@ static void list_chunk(const uint8_t *chunk, const struct chunk_facts *facts, ui
     to[4] = (uint8_t)ensembles;
     to += 5;
     for (; ensembles > 0; ensembles--) {
-        const uint8_t version = at[1] & 0x1F;
+        const uint8_t id = at[0], version = at[1] & 0x1F;
         unsigned services = at[ensemble - 1];
 
         if (version != 0) { /* unknown: its services are passed over */
             to[0] = 'E';
             to[1] = 'U';
-            to[2] = at[0];
+            to[2] = id;
             to[3] = version;
             to += 4;
             at += ensemble + services * service;
@@ -98,7 +98,7 @@ static void list_chunk(const uint8_t *chunk, const struct chunk_facts *facts, ui
         }
         to[0] = 'E';
         to[1] = 'N';
-        to[2] = at[0];
+        to[2] = id;
         to[3] = at[2] >> 5;
         to[4] = at[2] & 0x1F;
         to[5] = (uint8_t)services;
@@ -109,12 +109,13 @@ static void list_chunk(const uint8_t *chunk, const struct chunk_facts *facts, ui
 
             to[0] = 'S';
             to[1] = 'V';
-            to[2] = high;
-            to[3] = low;
-            to[4] = bits >> 3 & 3;
-            to[5] = bits >> 1 & 3;
-            to[6] = bits & 1;
-            to += 7;
+            to[2] = id;
+            to[3] = high;
+            to[4] = low;
+            to[5] = bits >> 3 & 3;
+            to[6] = bits >> 1 & 3;
+            to[7] = bits & 1;
+            to += PLAIN_SV;
             at += service;
         }
     }
@@ -144,8 +145,9 @@ struct plain_read plain_read(const uint8_t *chunk, size_t n, uint8_t *buffer, si
 
 /* ---- The writer ---- */
 
-/* Whether marks, counts, length and values of a listing agree, and no ensemble
-   is unknown (EU); if so, *services is the number of services in all. */
+/* Whether marks, counts, length and values of a listing agree, no ensemble is
+   unknown (EU), and each service has the id of the ensemble above it; if so,
+   *services is the number of services in all. */
 static int check_listing(const uint8_t *listing, size_t n, size_t *services)
 {
     size_t left, total = 0;
@@ -159,18 +161,21 @@ static int check_listing(const uint8_t *listing, size_t n, size_t *services)
     left = n - 5;
     for (; ensembles > 0; ensembles--) {
         unsigned count;
+        uint8_t id;
 
         if (left < 6 || at[0] != 'E' || at[1] != 'N' || at[3] > 7 || at[4] > 31)
             return 0;
+        id = at[2];
         count = at[5];
         total += count;
         at += 6;
         left -= 6;
         for (; count > 0; count--) {
-            if (left < 7 || at[0] != 'S' || at[1] != 'V' || at[4] > 3 || at[5] > 3 || at[6] > 1)
+            if (left < PLAIN_SV || at[0] != 'S' || at[1] != 'V' || at[2] != id
+                || at[5] > 3 || at[6] > 3 || at[7] > 1)
                 return 0;
-            at += 7;
-            left -= 7;
+            at += PLAIN_SV;
+            left -= PLAIN_SV;
         }
     }
     if (left != 0)
@@ -201,11 +206,10 @@ static void chunk_listing(const uint8_t *listing, unsigned kind, uint8_t *to)
         to += 4;
         at += 6;
         for (; services > 0; services--) {
-            to[0] = at[2];
-            to[1] = at[3];
-            to[2] = (uint8_t)(0xE0 | at[4] << 3 | at[5] << 1 | at[6]);
+            memcpy(to, at + 3, 2); /* byte by byte, gcc -O3 takes vectors, and longer */
+            to[2] = (uint8_t)(0xE0 | at[5] << 3 | at[6] << 1 | at[7]);
             to += 3;
-            at += 7;
+            at += PLAIN_SV;
         }
     }
 }

@@ -1,4 +1,4 @@
-/* FIC chunks, segments and the desk of document 01, with 02's unknown ensembles and offsets, in plain C11. */
+/* FIC chunks, segments and the desk of document 01, with 02's unknown ensembles, offsets and services that carry their ensemble, in plain C11. */
 #ifndef PLAIN_H
 #define PLAIN_H
 
@@ -10,7 +10,8 @@ enum {
     PLAIN_SEGMENT = 37,   /* a segment: two bytes of header and the payload */
     PLAIN_PLACES = 16,    /* the most segments of a chunk */
     PLAIN_CHUNK = 560,    /* the longest chunk: 16 payloads */
-    PLAIN_LISTING = 1292, /* the longest listing, and the least room for one */
+    PLAIN_SV = 8,         /* a service's record in a listing */
+    PLAIN_LISTING = 1475, /* the longest listing, and the least room for one */
     PLAIN_OUTPUT = 592    /* the least room for the writer: 16 segments */
 };
 
@@ -60,10 +61,12 @@ struct plain_answer {
 };
 
 /* Reads a chunk; the listing goes to the start of buffer. An ensemble of a
-   version other than 0 is listed as EU, id, version, without its services. */
+   version other than 0 is listed as EU, id, version, without its services; a
+   service of any other has its ensemble's id behind its mark. */
 struct plain_read plain_read(const uint8_t *chunk, size_t n, uint8_t *buffer, size_t room);
 
-/* Writes the segments of a listing without EU to the start of out. */
+/* Writes the segments of a listing without EU, and with each service under the
+   EN whose id it has, to the start of out. */
 struct plain_write plain_write(const uint8_t *listing, size_t n, int kind, uint8_t *out, size_t room);
 
 void plain_fresh(struct plain_desk *desk);

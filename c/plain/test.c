@@ -22,7 +22,7 @@ static const uint8_t chunk3[] = {0x00, 0x03, 0x01, 0x23, 0x00};
 static const uint8_t chunk4[] = {0x40, 0x03};
 static const uint8_t chunk5[] = {0x00, 0x03, 0x01, 0x23, 0x01};
 static const uint8_t list1[] = {0x54, 0x53, 0x01, 0x23, 0x01, 0x45, 0x4E, 0x05, 0x04, 0x03, 0x01,
-                                0x53, 0x56, 0x0A, 0x01, 0x00, 0x03, 0x00};
+                                0x53, 0x56, 0x05, 0x0A, 0x01, 0x00, 0x03, 0x00};
 static const uint8_t list3[] = {0x54, 0x53, 0x01, 0x23, 0x00};
 static const uint8_t list_unknown[] = {0x54, 0x53, 0x01, 0x23, 0x01, 0x45, 0x55, 0x05, 0x01};
 /* Where the header, the ensemble's fields and the service of the first two begin, and their end. */
@@ -146,7 +146,7 @@ static void unknown_samples(void)
                                       0x06, 0x3F, 0x83, 0xA1, 0xA2, 0x02, 0x0B, 0x01, 0xE6, 0xA3, 0x0C, 0x01, 0xE6, 0xA3,
                                       0x07, 0x00, 0x25, 0xA1, 0xA2, 0x00};
     static const uint8_t list[] = {0x54, 0x53, 0x01, 0x23, 0x03,
-                                   0x45, 0x4E, 0x05, 0x04, 0x03, 0x01, 0x53, 0x56, 0x0A, 0x01, 0x00, 0x03, 0x00,
+                                   0x45, 0x4E, 0x05, 0x04, 0x03, 0x01, 0x53, 0x56, 0x05, 0x0A, 0x01, 0x00, 0x03, 0x00,
                                    0x45, 0x55, 0x06, 0x1F,
                                    0x45, 0x4E, 0x07, 0x01, 0x05, 0x00};
     static const size_t starts[] = {0, 5, 11, 15, 21, 25, 29, 35};
@@ -160,8 +160,8 @@ static void unknown_samples(void)
     memcpy(c, between, LEN(between));
     memcpy(l, list, LEN(list));
     c[4] = l[4] = 2;
-    CHECK(reads(c, LEN(between), 0, 0, l, 22));
-    CHECK(reads(c, 29, 0, 0, l, 22));
+    CHECK(reads(c, LEN(between), 0, 0, l, LEN(list) - 6));
+    CHECK(reads(c, 29, 0, 0, l, LEN(list) - 6));
     cuts(c, 29, starts);
 
     /* Every version, with every value of the reserved bits. */
@@ -291,6 +291,7 @@ static struct plain_read slow_read(const uint8_t *chunk, size_t n, uint8_t *list
                 return no;
             list[to++] = 0x53;
             list[to++] = 0x56;
+            list[to++] = (uint8_t)id;
             list[to++] = (uint8_t)get(&b, 8);
             list[to++] = (uint8_t)get(&b, 8);
             get(&b, 3);
@@ -386,6 +387,7 @@ static size_t make_listing(uint8_t *to, unsigned ensembles, unsigned services)
 {
     uint8_t *p = to;
     unsigned i, k;
+    uint8_t id;
 
     memcpy(p, "TS", 2);
     p[2] = (uint8_t)dice(256);
@@ -394,19 +396,20 @@ static size_t make_listing(uint8_t *to, unsigned ensembles, unsigned services)
     p += 5;
     for (i = 0; i < ensembles; i++) {
         memcpy(p, "EN", 2);
-        p[2] = (uint8_t)dice(256);
+        p[2] = id = (uint8_t)dice(256);
         p[3] = (uint8_t)dice(8);
         p[4] = (uint8_t)dice(32);
         p[5] = (uint8_t)(i == 0 ? services : 0);
         p += 6;
         for (k = 0; i == 0 && k < services; k++) {
             memcpy(p, "SV", 2);
-            p[2] = (uint8_t)dice(256);
+            p[2] = id;
             p[3] = (uint8_t)dice(256);
-            p[4] = (uint8_t)dice(4);
+            p[4] = (uint8_t)dice(256);
             p[5] = (uint8_t)dice(4);
-            p[6] = (uint8_t)dice(2);
-            p += 7;
+            p[6] = (uint8_t)dice(4);
+            p[7] = (uint8_t)dice(2);
+            p += PLAIN_SV;
         }
     }
     return (size_t)(p - to);
@@ -483,9 +486,114 @@ static void unknown_writer_tests(void)
     CHECK(refused > 1000 && written > 1000);
 }
 
+/* Sets the id of an ensemble's record and of its services'. */
+static void set_ids(uint8_t *at, uint8_t id)
+{
+    unsigned services = at[5];
+
+    at[2] = id;
+    for (at += 6; services > 0; services--, at += PLAIN_SV)
+        at[2] = id;
+}
+
+/* Every id of a listing that is written, changed alone; and that of an ensemble
+   with its services', which is written as it then stands. */
+static void change_ids(const uint8_t *list, size_t n)
+{
+    uint8_t l[PLAIN_LISTING], out[PLAIN_OUTPUT], c[PLAIN_CHUNK], got[PLAIN_LISTING];
+    struct plain_write w;
+    size_t at, end, id;
+
+    for (at = 5; at < n; at = end) {
+        const uint8_t other = (uint8_t)(1 + dice(255));
+
+        end = at + 6 + list[at + 5] * PLAIN_SV;
+        for (id = at + 2; id < end; id += id == at + 2 ? 6 : PLAIN_SV) {
+            memcpy(l, list, n);
+            l[id] ^= other;
+            CHECK(exact_write(l, n, 1, out).number == (list[at + 5] > 0 ? 13 : 0));
+        }
+        memcpy(l, list, n);
+        set_ids(l + at, list[at + 2] ^ other);
+        w = exact_write(l, n, 1, out);
+        CHECK(w.number == 0 && exact_read(c, unwrap(out, w.segments, 1, c), got).length == n && memcmp(got, l, n) == 0);
+    }
+}
+
+static void ensemble_id_tests(void)
+{
+    /* Two services; none; one; one under the first one's id again. Ids of services look like those of ensembles. */
+    static const uint8_t chunk[] = {0x00, 0x03, 0x01, 0x23, 0x04,
+                                    0x05, 0xE0, 0x83, 0x02, 0x0A, 0x01, 0xE6, 0x05, 0x06, 0xED,
+                                    0x06, 0xE0, 0x00, 0x00,
+                                    0x00, 0xE0, 0xFF, 0x01, 0xFF, 0xFF, 0xFF,
+                                    0x05, 0xE0, 0x20, 0x01, 0x06, 0x05, 0xE0};
+    static const uint8_t list[] = {0x54, 0x53, 0x01, 0x23, 0x04,
+                                   0x45, 0x4E, 0x05, 0x04, 0x03, 0x02, 0x53, 0x56, 0x05, 0x0A, 0x01, 0x00, 0x03, 0x00,
+                                   0x53, 0x56, 0x05, 0x05, 0x06, 0x01, 0x02, 0x01,
+                                   0x45, 0x4E, 0x06, 0x00, 0x00, 0x00,
+                                   0x45, 0x4E, 0x00, 0x07, 0x1F, 0x01, 0x53, 0x56, 0x00, 0xFF, 0xFF, 0x03, 0x03, 0x01,
+                                   0x45, 0x4E, 0x05, 0x01, 0x00, 0x01, 0x53, 0x56, 0x05, 0x06, 0x05, 0x00, 0x00, 0x00};
+    static const uint8_t services[] = {11, 19, 39, 53}; /* where each is */
+    uint8_t l[PLAIN_LISTING + PLAIN_SV], out[PLAIN_OUTPUT], c[PLAIN_CHUNK], got[PLAIN_LISTING];
+    unsigned round, i, k, tried = 0;
+    size_t n, to;
+
+    CHECK(reads(chunk, LEN(chunk), 1, 0, list, LEN(list)));
+    CHECK(exact_write(list, LEN(list), 1, out).segments == 1 && memcmp(out + 2, chunk, LEN(chunk)) == 0);
+    for (i = 0; i < LEN(services); i++) {
+        for (k = 0; k < 256; k++) { /* every id */
+            memcpy(l, list, LEN(list));
+            l[services[i] + 2] = (uint8_t)k;
+            CHECK(exact_write(l, LEN(list), 1, out).number == (k == list[services[i] + 2] ? 0 : 13));
+        }
+        for (k = 0; k < LEN(services); k++) { /* two services in each other's place */
+            memcpy(l, list, LEN(list));
+            memcpy(l + services[i], list + services[k], PLAIN_SV);
+            memcpy(l + services[k], list + services[i], PLAIN_SV);
+            CHECK(exact_write(l, LEN(list), 1, out).number == ((i == 2) == (k == 2) ? 0 : 13));
+        }
+        memcpy(l, list, LEN(list)); /* without its ensemble's id */
+        memmove(l + services[i] + 2, list + services[i] + 3, LEN(list) - services[i] - 3);
+        CHECK(exact_write(l, LEN(list) - 1, 1, out).number == 13);
+        CHECK(exact_write(l, LEN(list), 1, out).number == 13);
+    }
+    /* None with its ensemble's id: the whole list, and the first sample. */
+    for (n = to = 0; n < LEN(list); n++)
+        if (n != 13 && n != 21 && n != 41 && n != 55)
+            l[to++] = list[n];
+    CHECK(to == LEN(list) - 4 && exact_write(l, to, 1, out).number == 13);
+    memcpy(l, list1, LEN(list1));
+    memmove(l + 13, list1 + 14, LEN(list1) - 14);
+    CHECK(exact_write(l, LEN(list1) - 1, 1, out).number == 13);
+
+    /* 13 comes before 14: the last of 184. */
+    n = make_listing(l, 1, 184);
+    CHECK(exact_write(l, n, 1, out).number == 14);
+    l[n - PLAIN_SV + 2] ^= 0x80;
+    CHECK(exact_write(l, n, 1, out).number == 13);
+    l[n - PLAIN_SV + 2] ^= 0x80;
+    l[7] ^= 0x01;
+    CHECK(exact_write(l, n, 1, out).number == 13);
+    set_ids(l + 5, l[7]);
+    CHECK(exact_write(l, n, 1, out).number == 14);
+
+    change_ids(list, LEN(list));
+    for (round = 0; round < 4000; round++) {
+        n = random_chunk(c);
+        slow_read(c, n, got);
+        if (unknown > 0)
+            continue;
+        tried++;
+        n = exact_read(c, n, got).length;
+        change_ids(got, n);
+    }
+    CHECK(tried > 500);
+}
+
 static void writer_tests(void)
 {
-    static uint8_t big[5 + 255 * (6 + 255 * 7)];
+    static uint8_t big[5 + 255 * (6 + 255 * PLAIN_SV)];
     uint8_t out[PLAIN_OUTPUT], c[PLAIN_CHUNK], got[PLAIN_LISTING], l[LEN(list1)];
     struct plain_write w;
     struct plain_read r;
@@ -501,10 +609,10 @@ static void writer_tests(void)
     CHECK(w.segments == 1 && memcmp(out + 2, chunk3, 5) == 0 && all(out + 7, 30, 0xFF));
 
     n = make_listing(big, 1, 183);
-    CHECK(n == 1292);
+    CHECK(n == PLAIN_LISTING);
     w = exact_write(big, n, 1, out);
     CHECK(w.number == 0 && w.segments == 16);
-    CHECK(out[591] == 0xFF && out[590] == 0xFF && out[589] == (0xE0 | big[1289] << 3 | big[1290] << 1 | big[1291]));
+    CHECK(out[591] == 0xFF && out[590] == 0xFF && out[589] == (0xE0 | big[n - 3] << 3 | big[n - 2] << 1 | big[n - 1]));
     CHECK(exact_write(big, make_listing(big, 1, 184), 1, out).number == 14);
     CHECK(exact_write(big, make_listing(big, 3, 181), 1, out).number == 0);
     CHECK(exact_write(big, make_listing(big, 3, 182), 1, out).number == 14);
@@ -518,8 +626,8 @@ static void writer_tests(void)
     for (e = 0; e < 255; e++) {
         memcpy(big + n, "EN\0\0\0\377", 6);
         n += 6;
-        for (s = 0; s < 255; s++, n += 7)
-            memcpy(big + n, "SV\0\0\0\0\0", 7);
+        for (s = 0; s < 255; s++, n += PLAIN_SV)
+            memcpy(big + n, "SV\0\0\0\0\0\0", PLAIN_SV);
     }
     CHECK(n == sizeof big && exact_write(big, n, 0, out).number == 14);
     big[n - 1] = 2;
@@ -528,12 +636,13 @@ static void writer_tests(void)
     for (n = 0; n < LEN(list1); n++)
         CHECK(exact_write(list1, n, 1, out).number == 13);
     memcpy(big, list1, LEN(list1));
-    memcpy(big + LEN(list1), list1 + 11, 7);
-    CHECK(exact_write(big, LEN(list1) + 7, 1, out).number == 13);
+    memcpy(big + LEN(list1), list1 + 11, PLAIN_SV);
+    CHECK(exact_write(big, LEN(list1) + PLAIN_SV, 1, out).number == 13);
     CHECK(exact_write(big, LEN(list1) + 1, 1, out).number == 13);
     for (n = 0; n < LEN(list1); n++) /* every value of every byte, one changed */
         for (i = 0; i < 256; i++) {
-            static const int most[LEN(list1)] = {-1, -1, 255, 255, -1, -1, -1, 255, 7, 31, -1, -1, -1, 255, 255, 3, 3, 1};
+            static const int most[LEN(list1)] = {-1, -1, 255, 255, -1, -1, -1, -1, 7, 31, -1,
+                                                 -1, -1, -1, 255, 255, 3, 3, 1};
             int good = most[n] < 0 ? i == list1[n] : (int)i <= most[n];
 
             memcpy(l, list1, sizeof l);
@@ -638,7 +747,7 @@ static int refused_unchanged(struct rig *g, const uint8_t *seg, int number)
 static void desk_tests(void)
 {
     struct rig g, before;
-    uint8_t seg[37], out[PLAIN_OUTPUT], big[2000], other[37];
+    uint8_t seg[37], out[PLAIN_OUTPUT], big[PLAIN_LISTING], other[37];
     size_t n, length, i;
     unsigned k;
     int kind;
@@ -662,21 +771,22 @@ static void desk_tests(void)
     CHECK(refused_unchanged(&g, seg, 5));
     sample_segment(seg, 0x32, 0x00);
     before = g;
-    CHECK(is_refusal(plain_segment(&g.desk, seg, 36, g.first, 1292, g.second, 1292), 2));
-    CHECK(is_refusal(plain_segment(&g.desk, NULL, 0, g.first, 1292, g.second, 1292), 2));
-    CHECK(is_refusal(plain_segment(&g.desk, seg, 38, g.first, 1292, g.second, 1292), 2));
-    CHECK(is_refusal(plain_segment(&g.desk, seg, 36, g.first, 1291, g.second, 1292), 1));
-    CHECK(is_refusal(plain_segment(&g.desk, seg, 37, g.first, 1291, g.second, 1292), 1));
-    CHECK(is_refusal(plain_segment(&g.desk, seg, 37, g.first, 1292, g.second, 1291), 1));
+    CHECK(is_refusal(plain_segment(&g.desk, seg, 36, g.first, PLAIN_LISTING, g.second, PLAIN_LISTING), 2));
+    CHECK(is_refusal(plain_segment(&g.desk, NULL, 0, g.first, PLAIN_LISTING, g.second, PLAIN_LISTING), 2));
+    CHECK(is_refusal(plain_segment(&g.desk, seg, 38, g.first, PLAIN_LISTING, g.second, PLAIN_LISTING), 2));
+    CHECK(is_refusal(plain_segment(&g.desk, seg, 36, g.first, PLAIN_LISTING - 1, g.second, PLAIN_LISTING), 1));
+    CHECK(is_refusal(plain_segment(&g.desk, seg, 37, g.first, PLAIN_LISTING - 1, g.second, PLAIN_LISTING), 1));
+    CHECK(is_refusal(plain_segment(&g.desk, seg, 37, g.first, PLAIN_LISTING, g.second, PLAIN_LISTING - 1), 1));
     CHECK(is_refusal(plain_segment(&g.desk, NULL, 0, NULL, 0, NULL, 0), 1));
     CHECK(memcmp(&before, &g, sizeof g) == 0);
 
     /* A list of this frame: only its bytes, only its buffer; repeats. */
-    CHECK(is_list(give(&g, seg), 1, 18));
-    CHECK(shown(&g, 1, &length) == g.first && length == 18 && shows(&g, 1, list1, 18) && shows(&g, 0, NULL, 0));
-    CHECK(all(g.first + 18, 1292 - 18, 0xA5) && all(g.second, 1292, 0x5A));
-    CHECK(plain_show(&g.desk, 1, g.first, 1291, g.second, 1292, &length) == NULL && length == 0);
-    CHECK(plain_show(&g.desk, 1, g.first, 1292, g.second, 1291, &length) == NULL && length == 0);
+    CHECK(is_list(give(&g, seg), 1, LEN(list1)));
+    CHECK(shown(&g, 1, &length) == g.first && length == LEN(list1));
+    CHECK(shows(&g, 1, list1, LEN(list1)) && shows(&g, 0, NULL, 0));
+    CHECK(all(g.first + LEN(list1), PLAIN_LISTING - LEN(list1), 0xA5) && all(g.second, PLAIN_LISTING, 0x5A));
+    CHECK(plain_show(&g.desk, 1, g.first, PLAIN_LISTING - 1, g.second, PLAIN_LISTING, &length) == NULL && length == 0);
+    CHECK(plain_show(&g.desk, 1, g.first, PLAIN_LISTING, g.second, PLAIN_LISTING - 1, &length) == NULL && length == 0);
     before = g;
     CHECK(is_missing(give(&g, seg), 0));
     seg[0] = 0x02; /* reserved bits are not compared */
@@ -687,36 +797,36 @@ static void desk_tests(void)
     CHECK(is_refusal(give(&g, seg), 7));
     CHECK(g.desk.slot[1].spoiled == 1 && g.desk.slot[1].held == 0 && g.desk.slot[1].last == 0
           && all(g.desk.slot[1].bytes, 560, 0));
-    CHECK(shows(&g, 1, list1, 18));
+    CHECK(shows(&g, 1, list1, LEN(list1)));
     sample_segment(seg, 0x32, 0x00);
     CHECK(refused_unchanged(&g, seg, 7));
     sample_segment(other, 0x32, 0x10); /* 6 comes before 7 */
     CHECK(refused_unchanged(&g, other, 6));
     sample_segment(other, 0x30, 0x00); /* the other kind knows nothing of it */
-    CHECK(is_list(give(&g, other), 0, 18));
-    CHECK(shown(&g, 0, &length) == g.second && length == 18);
+    CHECK(is_list(give(&g, other), 0, LEN(list1)));
+    CHECK(shown(&g, 0, &length) == g.second && length == LEN(list1));
     plain_gathering(&g.desk);
     CHECK(g.desk.slot[1].spoiled == 0 && g.desk.slot[0].held == 0 && all(g.desk.slot[0].bytes, 560, 0));
-    CHECK(shows(&g, 1, list1, 18) && shows(&g, 0, list1, 18));
-    CHECK(is_list(give(&g, seg), 1, 18));
+    CHECK(shows(&g, 1, list1, LEN(list1)) && shows(&g, 0, list1, LEN(list1)));
+    CHECK(is_list(give(&g, seg), 1, LEN(list1)));
 
     /* A next list has its turn at the boundary, and for one frame only. */
     rig_fresh(&g);
     sample_segment(seg, 0x30, 0x00);
-    CHECK(is_list(give(&g, seg), 0, 18));
-    CHECK(shown(&g, 0, &length) == g.second && length == 18 && shows(&g, 1, NULL, 0));
+    CHECK(is_list(give(&g, seg), 0, LEN(list1)));
+    CHECK(shown(&g, 0, &length) == g.second && length == LEN(list1) && shows(&g, 1, NULL, 0));
     plain_gathering(&g.desk);
-    CHECK(shows(&g, 0, list1, 18) && shows(&g, 1, NULL, 0));
+    CHECK(shows(&g, 0, list1, LEN(list1)) && shows(&g, 1, NULL, 0));
     plain_frame(&g.desk);
-    CHECK(shown(&g, 1, &length) == g.second && shows(&g, 1, list1, 18) && shows(&g, 0, NULL, 0));
-    CHECK(is_list(give(&g, seg), 0, 18)); /* a first segment in the frame */
+    CHECK(shown(&g, 1, &length) == g.second && shows(&g, 1, list1, LEN(list1)) && shows(&g, 0, NULL, 0));
+    CHECK(is_list(give(&g, seg), 0, LEN(list1))); /* a first segment in the frame */
     CHECK(shown(&g, 0, &length) == g.first && shown(&g, 1, &length) == g.second);
     plain_frame(&g.desk);
     CHECK(shown(&g, 1, &length) == g.first);
     before = g;
     plain_frame(&g.desk);
     CHECK(shows(&g, 1, NULL, 0) && shows(&g, 0, NULL, 0));
-    CHECK(memcmp(before.first, g.first, 1292) == 0 && memcmp(before.second, g.second, 1292) == 0);
+    CHECK(memcmp(before.first, g.first, PLAIN_LISTING) == 0 && memcmp(before.second, g.second, PLAIN_LISTING) == 0);
     /* Three frames: swapped; the roles change without a listing too. */
     CHECK(g.desk.swapped == 1);
     plain_frame(&g.desk);
@@ -724,7 +834,7 @@ static void desk_tests(void)
     plain_frame(&g.desk);
     CHECK(g.desk.swapped == 1);
     sample_segment(seg, 0x32, 0x00);
-    CHECK(is_list(give(&g, seg), 1, 18));
+    CHECK(is_list(give(&g, seg), 1, LEN(list1)));
     CHECK(shown(&g, 1, &length) == g.second);
 
     /* Chunks refused on completion: held, complete, no listing changes. */
@@ -759,8 +869,9 @@ static void desk_tests(void)
             CHECK(g.desk.slot[kind].held == 1 && g.desk.slot[kind].last == 0
                   && memcmp(g.desk.slot[kind].bytes, seg + 2, 35) == 0 && all(g.desk.slot[kind].bytes + 35, 525, 0));
             CHECK(memcmp(&before.desk.slot[!kind], &g.desk.slot[!kind], sizeof(struct plain_slot)) == 0);
-            CHECK(shows(&g, kind, list1, 18) && shows(&g, !kind, NULL, 0));
-            CHECK(memcmp(before.first, g.first, 1292) == 0 && memcmp(before.second, g.second, 1292) == 0);
+            CHECK(shows(&g, kind, list1, LEN(list1)) && shows(&g, !kind, NULL, 0));
+            CHECK(memcmp(before.first, g.first, PLAIN_LISTING) == 0
+                  && memcmp(before.second, g.second, PLAIN_LISTING) == 0);
             before = g;
             CHECK(is_missing(give(&g, seg), 0));
             CHECK(memcmp(&before, &g, sizeof g) == 0);
@@ -780,7 +891,8 @@ static void desk_tests(void)
     sample_segment(seg, 0x30, 0x00);
     seg[8] = 0xE1;
     CHECK(is_list(give(&g, seg), 0, 9));
-    CHECK(shows(&g, 0, list_unknown, 9) && all(g.second + 9, 1292 - 9, 0x5A) && all(g.first, 1292, 0xA5));
+    CHECK(shows(&g, 0, list_unknown, 9));
+    CHECK(all(g.second + 9, PLAIN_LISTING - 9, 0x5A) && all(g.first, PLAIN_LISTING, 0xA5));
     plain_frame(&g.desk);
     CHECK(shows(&g, 1, list_unknown, 9) && shows(&g, 0, NULL, 0));
     seg[3] ^= 1;
@@ -794,7 +906,7 @@ static void desk_tests(void)
     for (i = 16; i-- > 0;) {
         struct plain_answer a = give(&g, out + 37 * i);
 
-        CHECK(i > 0 ? is_missing(a, i) : is_list(a, 1, 1292));
+        CHECK(i > 0 ? is_missing(a, i) : is_list(a, 1, PLAIN_LISTING));
         before = g;
         CHECK(is_missing(give(&g, out + 37 * i), i));
         CHECK(memcmp(&before, &g, sizeof g) == 0);
@@ -815,8 +927,9 @@ static void desk_tests(void)
     plain_gathering(&g.desk);
     before = g;
     sample_segment(seg, 0x32, 0x00);
-    CHECK(is_list(give(&g, seg), 1, 18));
-    CHECK(memcmp(g.first + 18, before.first + 18, 1292 - 18) == 0 && shows(&g, 1, list1, 18));
+    CHECK(is_list(give(&g, seg), 1, LEN(list1)));
+    CHECK(memcmp(g.first + LEN(list1), before.first + LEN(list1), PLAIN_LISTING - LEN(list1)) == 0);
+    CHECK(shows(&g, 1, list1, LEN(list1)));
 }
 
 static void header_of(uint8_t *seg, unsigned kind, unsigned number, unsigned last)
@@ -841,8 +954,8 @@ static void gathers_to(struct rig *g, const uint8_t *c, unsigned payloads, unsig
         CHECK(i > 0 ? is_missing(a, i) : is_refusal_at(a, 9, at));
     }
     CHECK(is_missing(give(g, seg), 0));
-    CHECK(shows(g, 1, list1, 18) && shows(g, 0, list1, 18));
-    CHECK(memcmp(before.first, g->first, 1292) == 0 && memcmp(before.second, g->second, 1292) == 0);
+    CHECK(shows(g, 1, list1, LEN(list1)) && shows(g, 0, list1, LEN(list1)));
+    CHECK(memcmp(before.first, g->first, PLAIN_LISTING) == 0 && memcmp(before.second, g->second, PLAIN_LISTING) == 0);
     seg[36] ^= 1;
     CHECK(is_refusal(give(g, seg), 7));
     plain_gathering(&g->desk);
@@ -858,7 +971,7 @@ static void ran_out_tests(void)
     rig_fresh(&g);
     for (k = 0; k < 2; k++) {
         sample_segment(seg, k ? 0x32 : 0x30, 0x00);
-        CHECK(is_list(give(&g, seg), (int)k, 18));
+        CHECK(is_list(give(&g, seg), (int)k, LEN(list1)));
     }
     plain_gathering(&g.desk);
     for (round = 0; round < 2000; round++) {
@@ -895,7 +1008,7 @@ static int slow_well_formed(const struct plain_desk *d)
         const struct plain_slot *s = &d->slot[k];
         int zero = 1;
 
-        if (d->length[k] != 0 && (d->length[k] < 5 || d->length[k] > 1292))
+        if (d->length[k] != 0 && (d->length[k] < 5 || d->length[k] > PLAIN_LISTING))
             return 0;
         for (i = 0; i < 16; i++)
             for (j = 0; j < 35; j++)
@@ -917,7 +1030,7 @@ static int slow_well_formed(const struct plain_desk *d)
 
 static void malformed_tests(void)
 {
-    static const size_t lengths[] = {0, 1, 4, 5, 6, 1291, 1292, 1293, SIZE_MAX};
+    static const size_t lengths[] = {0, 1, 4, 5, 6, PLAIN_LISTING - 1, PLAIN_LISTING, PLAIN_LISTING + 1, SIZE_MAX};
     struct rig g, before;
     struct plain_desk fresh;
     uint8_t seg[37];
@@ -953,9 +1066,9 @@ static void malformed_tests(void)
         bad++;
         before = g;
         sample_segment(seg, 0x32, 0x00);
-        CHECK(is_refusal(plain_segment(&g.desk, seg, 37, g.first, 1292, g.second, 1292), 12));
+        CHECK(is_refusal(plain_segment(&g.desk, seg, 37, g.first, PLAIN_LISTING, g.second, PLAIN_LISTING), 12));
         CHECK(is_refusal(plain_segment(&g.desk, NULL, 0, NULL, 0, NULL, 0), 12));
-        CHECK(plain_show(&g.desk, (int)dice(2), g.first, 1292, g.second, 1292, &length) == NULL && length == 0);
+        CHECK(shown(&g, (int)dice(2), &length) == NULL && length == 0);
         CHECK(memcmp(&before, &g, sizeof g) == 0);
         plain_gathering(&g.desk);
         CHECK(memcmp(&fresh, &g.desk, sizeof fresh) == 0);
@@ -1188,9 +1301,9 @@ static void add_segments(const uint8_t *c, unsigned payloads)
 
 static void log_tests(void)
 {
-    static const char sample[] = "SG 0 list next 18\n5453012301454e0504030153560a01000300\n"
-                                 "FR 18\n5453012301454e0504030153560a01000300\nFR none\nEND 0\n";
-    uint8_t seg[37], c[PLAIN_CHUNK], big[2000], out[PLAIN_OUTPUT];
+    static const char sample[] = "SG 0 list next 19\n5453012301454e050403015356050a01000300\n"
+                                 "FR 19\n5453012301454e050403015356050a01000300\nFR none\nEND 0\n";
+    uint8_t seg[37], c[PLAIN_CHUNK], big[PLAIN_LISTING], out[PLAIN_OUTPUT];
     unsigned round, i, k;
     size_t n, whole;
 
@@ -1359,6 +1472,7 @@ int main(int argc, char **argv)
     unknown_samples();
     reader_model();
     unknown_writer_tests();
+    ensemble_id_tests();
     writer_tests();
     desk_tests();
     ran_out_tests();

@@ -6,6 +6,7 @@ use mathlib.Core.List.{List, [], _∷_, _++_}
 use Prim.Native.Nat.{ℕ, zero, suc, _+_, _-_, _*_, _≤_, _<_}
 use native.Mathlib.Omega.{arith}
 use borrow.Author.Tests.{leb-true}
+use lib.Dec.{eqb}
 use lib.ListN.{length, getD, drop, set, length-append, length-drop}
 use lib.Seq.{getD-drop, drop-drop, sets}
 use Rattle.octets.proofs.Stores.{stores, stored, sets-append}
@@ -14,7 +15,7 @@ use Rattle.meaning.specs.Sizes.{chunkHeaderBytes, ensembleBytes, serviceBytes, 
 use Rattle.meaning.specs.Lists.{currentOf}
 use Rattle.meaning.specs.Listing.{markTS, markEN, markSV}
 use Rattle.meaning.proofs.Counts.{leb-and, stands-and, services-room}
-use Rattle.meaning.specs.Said.{svFits, servicesFit, enFits, ensemblesFit, listingFits, countSaid, afterEN, afterServices}
+use Rattle.meaning.specs.Said.{svFits, servicesFit, enFits, ensemblesFit, listingFits, idSaid, countSaid, afterEN, afterServices}
 use Rattle.chunk_puts.specs.Laid.{serviceLaid, servicesLaid, ensembleLaid, ensemblesLaid, chunkLaid}
 use Rattle.listing_checks.proofs.Checks.{after, after-at}
 
@@ -22,35 +23,36 @@ use Rattle.listing_checks.proofs.Checks.{after, after-at}
 
 pub record ServicePasses (xs : List ℕ) (at : ℕ) : Type 0 where
   pub room : at + svBytes ≤ length xs
-  pub multi : getD xs (at + 4) 0 ≤ mostMulti
-  pub status : getD xs (at + 5) 0 ≤ mostStatus
-  pub sp : getD xs (at + 6) 0 ≤ mostSP
+  pub multi : getD xs (at + 5) 0 ≤ mostMulti
+  pub status : getD xs (at + 6) 0 ≤ mostStatus
+  pub sp : getD xs (at + 7) 0 ≤ mostSP
 
-pub service-passes : (xs : List ℕ) (at : ℕ) → svFits (drop at xs) ≡ true → ServicePasses xs at
+pub service-passes : (xs : List ℕ) (at e : ℕ) → svFits e (drop at xs) ≡ true → ServicePasses xs at
 unfolding svFits
-service-passes xs at fits =
+service-passes xs at e fits =
     let zs : List ℕ = drop at xs in
     let head = stands-and markSV svBytes zs fits in
-    let most = leb-and (getD zs 4 0) mostMulti (head .1) in
-    let more = leb-and (getD zs 5 0) mostStatus (most .1) in
+    let own = and-eq-true-iff (eqb (getD zs 2 0) e) _ .0 (head .1) in
+    let most = leb-and (getD zs 5 0) mostMulti (own .1) in
+    let more = leb-and (getD zs 6 0) mostStatus (most .1) in
     record {
       room = omega (arith, length-drop at xs);
-      multi = rw (sym (getD-drop at xs 4 0)) (most .0);
-      status = rw (sym (getD-drop at xs 5 0)) (more .0);
-      sp = rw (sym (getD-drop at xs 6 0)) (leb-true _ _ (more .1));
+      multi = rw (sym (getD-drop at xs 5 0)) (most .0);
+      status = rw (sym (getD-drop at xs 6 0)) (more .0);
+      sp = rw (sym (getD-drop at xs 7 0)) (leb-true _ _ (more .1));
     }
 
-pub service-stored : (xs l : List ℕ) (at to : ℕ) → stores (set l to (getD xs (at + 2) 0)) to 1 (getD xs (at + 3) 0 ∷ (224 + getD xs (at + 4) 0 * 8 + getD xs (at + 5) 0 * 2 + getD xs (at + 6) 0) ∷ []) ≡ sets l to (serviceLaid (drop at xs))
+pub service-stored : (xs l : List ℕ) (at to : ℕ) → stores (set l to (getD xs (at + 3) 0)) to 1 (getD xs (at + 4) 0 ∷ (224 + getD xs (at + 5) 0 * 8 + getD xs (at + 6) 0 * 2 + getD xs (at + 7) 0) ∷ []) ≡ sets l to (serviceLaid (drop at xs))
 service-stored xs l at to =
-    let own : ℕ = 224 + getD xs (at + 4) 0 * 8 + getD xs (at + 5) 0 * 2 + getD xs (at + 6) 0 in
-    stored (getD xs (at + 2) 0) (getD xs (at + 3) 0 ∷ own ∷ []) l to ∙ sym (simp getD-drop)
+    let own : ℕ = 224 + getD xs (at + 5) 0 * 8 + getD xs (at + 6) 0 * 2 + getD xs (at + 7) 0 in
+    stored (getD xs (at + 3) 0) (getD xs (at + 4) 0 ∷ own ∷ []) l to ∙ sym (simp getD-drop)
 
 -- ---- one service after the other: n from the place at on
 
-pub services-some : (xs : List ℕ) (at n : ℕ) → 0 < n → servicesFit n (drop at xs) ≡ true → (svFits (drop at xs) ≡ true) × (servicesFit (n - 1) (drop (at + svBytes) xs) ≡ true)
+pub services-some : (xs : List ℕ) (at e n : ℕ) → 0 < n → servicesFit e n (drop at xs) ≡ true → (svFits e (drop at xs) ≡ true) × (servicesFit e (n - 1) (drop (at + svBytes) xs) ≡ true)
 unfolding servicesFit
-services-some xs at zero some fits = absurd (omega arith)
-services-some xs at (suc n) some fits =
+services-some xs at e zero some fits = absurd (omega arith)
+services-some xs at e (suc n) some fits =
     let one : suc n - 1 ≡ n = omega arith in
     rw (one, sym (drop-drop svBytes at xs)) (and-eq-true-iff _ _ .0 fits)
 
@@ -99,20 +101,20 @@ ensemble-stored xs l m at to put =
 
 -- ---- one ensemble after the other: n from the place at on, the first of them with k services
 
-pub ensembles-some : (ys : List ℕ) (n : ℕ) → 0 < n → ensemblesFit n ys ≡ true → (enFits ys ≡ true) × (servicesFit (countSaid ys) (afterEN ys) ≡ true) × (ensemblesFit (n - 1) (afterServices ys) ≡ true)
+pub ensembles-some : (ys : List ℕ) (n : ℕ) → 0 < n → ensemblesFit n ys ≡ true → (enFits ys ≡ true) × (servicesFit (idSaid ys) (countSaid ys) (afterEN ys) ≡ true) × (ensemblesFit (n - 1) (afterServices ys) ≡ true)
 unfolding ensemblesFit
 ensembles-some ys zero some fits = absurd (omega arith)
 ensembles-some ys (suc n) some fits =
     let one : suc n - 1 ≡ n = omega arith in
     let a = and-eq-true-iff (enFits ys) _ .0 fits in
-    let b = and-eq-true-iff (servicesFit (countSaid ys) (afterEN ys)) _ .0 (a .1) in
+    let b = and-eq-true-iff (servicesFit (idSaid ys) (countSaid ys) (afterEN ys)) _ .0 (a .1) in
     (a .0, b .0, rw one (b .1))
 
 pub ensembles-rest : (xs : List ℕ) (at n k : ℕ) → 0 < n → ensemblesFit n (drop at xs) ≡ true → k ≡ countSaid (drop at xs) → (after at k ≤ length xs) × (ensemblesFit (n - 1) (drop (after at k) xs) ≡ true)
 ensembles-rest xs at n k some fits is =
     let ys : List ℕ = drop at xs in
     let h = ensembles-some ys n some fits in (
-      omega (arith, is, ensemble-passes xs at (h .0) .room, services-room (countSaid ys) (afterEN ys) (h .1), length-drop at xs, length-drop enBytes ys),
+      omega (arith, is, ensemble-passes xs at (h .0) .room, services-room (idSaid ys) (countSaid ys) (afterEN ys) (h .1), length-drop at xs, length-drop enBytes ys),
       rw (sym (after-at xs at k is)) (h .2),
     )
 

@@ -6,11 +6,11 @@ use lib.ListN.{getD, drop}
 use Rattle.meaning.specs.declared.Kind.{Kind}
 use Rattle.meaning.specs.Sizes.{tsBytes, svBytes}
 use Rattle.meaning.specs.Lists.{currentOf}
-use Rattle.meaning.specs.Said.{countSaid, afterEN, afterServices}
+use Rattle.meaning.specs.Said.{idSaid, countSaid, afterEN, afterServices}
 
 -- of a service's record at the start of zs, and of n of them
 abbrev pub serviceLaid : List ℕ → List ℕ
-serviceLaid zs = getD zs 2 0 ∷ getD zs 3 0 ∷ (224 + getD zs 4 0 * 8 + getD zs 5 0 * 2 + getD zs 6 0) ∷ []
+serviceLaid zs = getD zs 3 0 ∷ getD zs 4 0 ∷ (224 + getD zs 5 0 * 8 + getD zs 6 0 * 2 + getD zs 7 0) ∷ []
 
 unfoldable pub servicesLaid : ℕ → List ℕ → List ℕ
 servicesLaid zero zs = []
@@ -19,7 +19,7 @@ servicesLaid (suc n) zs = serviceLaid zs ++ servicesLaid n (drop svBytes zs)
 -- of an ensemble's record at the start of ys with its services, and of n of them
 unfoldable pub ensembleLaid : List ℕ → List ℕ
 ensembleLaid ys =
-    (getD ys 2 0 ∷ 224 ∷ (getD ys 3 0 * 32 + getD ys 4 0) ∷ countSaid ys ∷ []) ++ servicesLaid (countSaid ys) (afterEN ys)
+    (idSaid ys ∷ 224 ∷ (getD ys 3 0 * 32 + getD ys 4 0) ∷ countSaid ys ∷ []) ++ servicesLaid (countSaid ys) (afterEN ys)
 
 unfoldable pub ensemblesLaid : ℕ → List ℕ → List ℕ
 ensemblesLaid zero ys = []

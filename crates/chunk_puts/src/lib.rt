@@ -8,33 +8,33 @@ use meaning::SV_BYTES;
 use meaning::TS_BYTES;
 ghost use mathlib.Core.Path.{_≡_};
 ghost use mathlib.Core.Bool.{true};
-ghost use Prim.Native.Nat.{_+_, _*_, _≤_};
+ghost use Prim.Native.Nat.{ℕ, _+_, _*_, _≤_};
 ghost use lib.ListN.{length, drop};
 ghost use lib.Seq.{sets};
 ghost use Rattle.meaning.specs.Sizes.{ensembleBytes, serviceBytes};
-ghost use Rattle.meaning.specs.Said.{svFits, servicesFit, enFits, ensemblesFit, listingFits, countSaid, afterEN};
+ghost use Rattle.meaning.specs.Said.{svFits, servicesFit, enFits, ensemblesFit, listingFits, idSaid, countSaid, afterEN};
 ghost use Rattle.chunk_puts.specs.Laid.{serviceLaid, servicesLaid, ensembleLaid, ensemblesLaid, chunkLaid};
 
-// Puts the service whose record is at a place of the listing at a place of the chunk. All is read before anything is put: so the compiler may
-// take two bytes at once.
+// Puts the service whose record, of whichever ensemble, is at a place of the listing at a place of the chunk. All is read before anything is put:
+// so the compiler may take two bytes at once.
 fn put_service(listing: &[u8], at: usize, chunk: &mut [u8], to: usize)
-    requires { ⌜ svFits (drop at (now listing)) ≡ true ⌝ }
+    requires { ⌜ ((e : ℕ) × (svFits e (drop at (now listing)) ≡ true)) ⌝ }
     requires { ⌜ to + serviceBytes ≤ length (now chunk) ⌝ }
     ensures { λ _. ⌜ now (chunk .exit) ≡ sets (now (chunk .entry)) to (serviceLaid (drop at (now (listing .entry)))) ⌝ }
 {
-    let high = listing[at + 2];
-    let low = listing[at + 3];
-    let multi = listing[at + 4];
-    let status = listing[at + 5];
-    let sp = listing[at + 6];
+    let high = listing[at + 3];
+    let low = listing[at + 4];
+    let multi = listing[at + 5];
+    let status = listing[at + 6];
+    let sp = listing[at + 7];
     chunk[to] = high;
     chunk[to + 1] = low;
     chunk[to + 2] = 224 + multi * 8 + status * 2 + sp;
 }
 
-// Puts count services.
+// Puts count services, of whichever ensemble.
 fn put_services(listing: &[u8], from: usize, count: usize, chunk: &mut [u8], start: usize)
-    requires { ⌜ servicesFit count (drop from (now listing)) ≡ true ⌝ }
+    requires { ⌜ ((e : ℕ) × (servicesFit e count (drop from (now listing)) ≡ true)) ⌝ }
     requires { ⌜ start + serviceBytes * count ≤ length (now chunk) ⌝ }
     ensures { λ _. ⌜ now (chunk .exit) ≡ sets (now (chunk .entry)) start (servicesLaid count (drop from (now (listing .entry)))) ⌝ }
 {
@@ -52,7 +52,7 @@ fn put_services(listing: &[u8], from: usize, count: usize, chunk: &mut [u8], sta
 // Puts the ensemble whose record is at a place of the listing, then its services; how many services there are.
 fn put_ensemble(listing: &[u8], at: usize, chunk: &mut [u8], to: usize) -> usize
     requires { ⌜ enFits (drop at (now listing)) ≡ true ⌝ }
-    requires { ⌜ servicesFit (countSaid (drop at (now listing))) (afterEN (drop at (now listing))) ≡ true ⌝ }
+    requires { ⌜ servicesFit (idSaid (drop at (now listing))) (countSaid (drop at (now listing))) (afterEN (drop at (now listing))) ≡ true ⌝ }
     requires { ⌜ to + (ensembleBytes + serviceBytes * countSaid (drop at (now listing))) ≤ length (now chunk) ⌝ }
     ensures { λ r. ⌜ r ≡ countSaid (drop at (now (listing .entry))) ⌝ }
     ensures { λ _. ⌜ now (chunk .exit) ≡ sets (now (chunk .entry)) to (ensembleLaid (drop at (now (listing .entry)))) ⌝ }

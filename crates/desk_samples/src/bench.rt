@@ -4,14 +4,14 @@ use desk::Desk;
 use meaning::Kind;
 use slots::Answer;
 
-const ROOM: usize = 1300;
+const ROOM: usize = 1500;
 
 const BEFORE: u8 = 0xA5;
 
 pub struct Bench {
     pub desk: Desk,
-    pub first: [u8; 1300],
-    pub second: [u8; 1300],
+    pub first: [u8; 1500],
+    pub second: [u8; 1500],
 }
 
 // A listing in hex, or a dash for none.

@@ -91,17 +91,17 @@ fn buffers() {
     let longest = LONGEST_LISTING;
     let short = longest - 1;
     let a = Bench::new()
-        .segment_in(b"buffers of 1291, 1292", seg, short, longest)
-        .segment_in(b"buffers of 1292, 1291", seg, longest, short)
-        .segment_in(b"buffers of 0, 1292", seg, 0, longest)
-        .segment_in(b"buffers of 1292, 0", seg, longest, 0)
+        .segment_in(b"buffers of 1474, 1475", seg, short, longest)
+        .segment_in(b"buffers of 1475, 1474", seg, longest, short)
+        .segment_in(b"buffers of 0, 1475", seg, 0, longest)
+        .segment_in(b"buffers of 1475, 0", seg, longest, 0)
         .segment_in(b"buffers of 0, 0", seg, 0, 0);
-    let b = a.segment_in(b"buffers of 1292, 1292", seg, longest, longest);
-    let c = b.segment_in(b"then of 1291, 1292", seg, short, longest)
-        .segment_in(b"then of 1292, 1291", seg, longest, short);
-    c.segment_in(b"then of 1300, 1300", seg, 1300, 1300);
-    Bench::new().segment_in(b"buffers of 1300, 1300", seg, 1300, 1300);
-    Bench::new().segment_in(b"buffers of 1292, 1300", seg, longest, 1300);
+    let b = a.segment_in(b"buffers of 1475, 1475", seg, longest, longest);
+    let c = b.segment_in(b"then of 1474, 1475", seg, short, longest)
+        .segment_in(b"then of 1475, 1474", seg, longest, short);
+    c.segment_in(b"then of 1500, 1500", seg, 1500, 1500);
+    Bench::new().segment_in(b"buffers of 1500, 1500", seg, 1500, 1500);
+    Bench::new().segment_in(b"buffers of 1475, 1500", seg, longest, 1500);
 }
 
 // The order of the checks before those on a header.
@@ -114,8 +114,8 @@ fn order() {
     bad.segment_in(b"bad desk, short buffers", seg, short, short)
         .part(b"bad desk, 36 bytes", less, 36);
     Bench::new()
-        .bytes_in(b"short buffers, 36 bytes", less, 1300, short)
-        .segment_in(b"short buffers, 72 00", seg, short, 1300)
+        .bytes_in(b"short buffers, 36 bytes", less, 1500, short)
+        .segment_in(b"short buffers, 72 00", seg, short, 1500)
         .part(b"36 bytes, 72 00", less, 36);
 }
 
@@ -177,8 +177,8 @@ fn both(name: &[u8], mine: Slot, place: u16, byte: u8) {
 }
 
 fn well_formed() {
-    listing(b"listings of 5, 1292", 5, 1292);
-    listing(b"listings of 1292, 0", 1292, 0);
+    listing(b"listings of 5, 1475", 5, LONGEST_LISTING);
+    listing(b"listings of 1475, 0", LONGEST_LISTING, 0);
     both(b"holds 15 of 15", slot(15, 0x8000, false), 525, 1);
     both(b"holds 0 of 1", slot(1, 1, false), 34, 1);
     both(b"spoiled", slot(0, 0, true), 0, 0);
@@ -189,8 +189,8 @@ fn not_well_formed() {
     listing(b"listings of 5, 3", 5, 3);
     listing(b"listings of 4, 0", 4, 0);
     listing(b"listings of 0, 1", 0, 1);
-    listing(b"listings of 1293, 5", 1293, 5);
-    listing(b"listings of 5, 1293", 5, 1293);
+    listing(b"listings of 1476, 5", LONGEST_LISTING + 1, 5);
+    listing(b"listings of 5, 1476", 5, LONGEST_LISTING + 1);
     both(b"last 16", slot(16, 1, false), 0, 0);
     both(b"last 255", slot(255, 1, false), 0, 0);
     both(b"holds 2 above 1", slot(1, 7, false), 0, 0);

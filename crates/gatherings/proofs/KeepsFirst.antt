@@ -1,7 +1,7 @@
 -- A desk that keeps the first piece of a chunk and only claims the later ones does not meet demand 3: two pieces tell. Assumes nothing.
 use mathlib.Core.Path.{_≡_, refl, ap}
 use mathlib.Core.List.{List, [], _∷_, _++_, flatMap, map}
-use Prim.Native.Nat.{ℕ, zero, suc, _≤_, _<_}
+use Prim.Native.Nat.{ℕ, zero, suc, _+_, _*_, _≤_, _<_}
 use native.Mathlib.Omega.{arith}
 use lib.Dec.{T}
 use lib.ListN.{length, getD, drop, replicate}
@@ -10,7 +10,7 @@ use Rattle.octets.specs.Bits.{bits, laid, number, octets, bytesOf}
 use Rattle.octets.specs.Each.{Each}
 use Rattle.octets.specs.Checks.{among}
 use Rattle.meaning.specs.declared.Kind.the-variants.{This}
-use Rattle.meaning.specs.Sizes.{longestListing}
+use Rattle.meaning.specs.Sizes.{tsBytes, enBytes, svBytes, longestListing}
 use Rattle.meaning.specs.Lists.{Service, known, FicList}
 use Rattle.meaning.specs.Layout.{serviceFields, ensembleHead, ensembleFields, chunkHead, chunkFields, wire, Carries}
 use Rattle.meaning.specs.Listing.{listing, ensembleListing}
@@ -56,12 +56,15 @@ memory = zeros longestListing
 run : Ran
 run = ranBy keepsFirst (state fresh memory memory) (map (callFor chunk fill) deliveries)
 
--- the last service's status is 0 there, and 3 in the list
-status-lost : getD (run .left .first) 72 0 ≡ 0
+-- where the last service's status is in the listing; it is 0 there, and 3 in the list
+abbrev place : ℕ
+place = tsBytes + enBytes + 8 * svBytes + 6
+
+status-lost : getD (run .left .first) place 0 ≡ 0
 unfolding run memory deliveries chunk list service ranBy keepsFirst pieceOf segment headFields wire chunkFields chunkHead ensembleFields ensembleHead serviceFields bytesOf octets number laid bits flatMap segmentAfter takenBy wellFormed slotFits clashing gathered completed segmentChecks checks ensemblesChecks listIn ensemblesAt servicesAt listing ensembleListing ones onesIn
 status-lost = refl
 
-status-sent : (rest : List ℕ) → getD (listing list ++ rest) 72 0 ≡ 3
+status-sent : (rest : List ℕ) → getD (listing list ++ rest) place 0 ≡ 3
 unfolding list service listing ensembleListing flatMap
 status-sent rest = refl
 
@@ -87,5 +90,5 @@ pub first-not-enough : ListsAll keepsFirst → ⊥
 unfolding run
 first-not-enough all =
     let c = all chunk This 0 list carried fill (plainly-suits chunk .bytes) (plainly-suits chunk .whole) deliveries allowed every fresh fresh-start memory memory long long in
-    let same : getD (run .left .first) 72 0 ≡ getD (listing list ++ drop (length (listing list)) memory) 72 0 = ap (λ (xs : List ℕ). getD xs 72 0) (c .own) in
+    let same : getD (run .left .first) place 0 ≡ getD (listing list ++ drop (length (listing list)) memory) place 0 = ap (λ (xs : List ℕ). getD xs place 0) (c .own) in
     omega (arith, status-lost, status-sent (drop (length (listing list)) memory))

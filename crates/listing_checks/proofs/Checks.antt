@@ -45,10 +45,10 @@ module _ (xs : List ℕ) (at : ℕ) where
       (omega (arith, leb-and n (length (drop at xs)) is .0, length-drop at xs), is)
 
   -- a service's, where there is room for one
-  pub sv-tests : at + svBytes ≤ length xs → svFits (drop at xs) ≡ (marked markSV (drop at xs) && (leb (getD xs (at + 4) 0) mostMulti && (leb (getD xs (at + 5) 0) mostStatus && leb (getD xs (at + 6) 0) mostSP)))
+  pub sv-tests : (e : ℕ) → at + svBytes ≤ length xs → svFits e (drop at xs) ≡ (marked markSV (drop at xs) && (eqb (getD xs (at + 2) 0) e && (leb (getD xs (at + 5) 0) mostMulti && (leb (getD xs (at + 6) 0) mostStatus && leb (getD xs (at + 7) 0) mostSP))))
   unfolding svFits
-  sv-tests room =
-      simp (getD-drop at xs 4 0, getD-drop at xs 5 0, getD-drop at xs 6 0, stands-at markSV svBytes, le-leb svBytes (length xs - at) (omega arith))
+  sv-tests e room =
+      simp (getD-drop at xs 2 0, getD-drop at xs 5 0, getD-drop at xs 6 0, getD-drop at xs 7 0, stands-at markSV svBytes, le-leb svBytes (length xs - at) (omega arith))
 
   pub en-tests : enFits (drop at xs) ≡ (stands markEN enBytes (drop at xs) && (leb (getD xs (at + 3) 0) mostFlags && leb (getD xs (at + 4) 0) mostChannel))
   unfolding enFits
@@ -60,24 +60,24 @@ module _ (xs : List ℕ) (at : ℕ) where
 
   -- ---- n services from the place at on
 
-  pub services-there : (n : ℕ) → at ≤ length xs → servicesFit n (drop at xs) ≡ true → at + svBytes * n ≤ length xs
-  services-there n inl h = omega (arith, services-room n (drop at xs) h, length-drop at xs)
+  pub services-there : (e n : ℕ) → at ≤ length xs → servicesFit e n (drop at xs) ≡ true → at + svBytes * n ≤ length xs
+  services-there e n inl h = omega (arith, services-room e n (drop at xs) h, length-drop at xs)
 
-  pub services-short : (n : ℕ) → length xs - at < svBytes * n → servicesFit n (drop at xs) ≡ false
-  services-short n short =
-      either (servicesFit n (drop at xs)) (λ h. absurd (omega (arith, services-room n (drop at xs) h, length-drop at xs))) (λ h. h)
+  pub services-short : (e n : ℕ) → length xs - at < svBytes * n → servicesFit e n (drop at xs) ≡ false
+  services-short e n short =
+      either (servicesFit e n (drop at xs)) (λ h. absurd (omega (arith, services-room e n (drop at xs) h, length-drop at xs))) (λ h. h)
 
-  pub services-none : (n : ℕ) → n ≤ 0 → servicesFit n (drop at xs) ≡ true
+  pub services-none : (e n : ℕ) → n ≤ 0 → servicesFit e n (drop at xs) ≡ true
   unfolding servicesFit
-  services-none zero z = refl
-  services-none (suc n) z = absurd (omega arith)
+  services-none e zero z = refl
+  services-none e (suc n) z = absurd (omega arith)
 
-  pub services-tests : (n : ℕ) → 0 < n → servicesFit n (drop at xs) ≡ (svFits (drop at xs) && servicesFit (n - 1) (drop (at + svBytes) xs))
+  pub services-tests : (e n : ℕ) → 0 < n → servicesFit e n (drop at xs) ≡ (svFits e (drop at xs) && servicesFit e (n - 1) (drop (at + svBytes) xs))
   unfolding servicesFit
-  services-tests zero z = absurd (omega arith)
-  services-tests (suc n) z =
+  services-tests e zero z = absurd (omega arith)
+  services-tests e (suc n) z =
       let one : suc n - 1 ≡ n = omega arith in
-      rw one (ap (λ (ys : List ℕ). svFits (drop at xs) && servicesFit n ys) (drop-drop svBytes at xs))
+      rw one (ap (λ (ys : List ℕ). svFits e (drop at xs) && servicesFit e n ys) (drop-drop svBytes at xs))
 
   -- ---- n ensembles from the place at on
 
@@ -86,12 +86,12 @@ module _ (xs : List ℕ) (at : ℕ) where
   ensembles-none zero z = ap (λ (n : ℕ). eqb n 0) (length-drop at xs)
   ensembles-none (suc n) z = absurd (omega arith)
 
-  pub ensembles-tests : (n : ℕ) → 0 < n → ensemblesFit n (drop at xs) ≡ (enFits (drop at xs) && (servicesFit (getD xs (at + 5) 0) (drop (at + enBytes) xs) && ensemblesFit (n - 1) (drop (after at (getD xs (at + 5) 0)) xs)))
+  pub ensembles-tests : (n : ℕ) → 0 < n → ensemblesFit n (drop at xs) ≡ (enFits (drop at xs) && (servicesFit (getD xs (at + 2) 0) (getD xs (at + 5) 0) (drop (at + enBytes) xs) && ensemblesFit (n - 1) (drop (after at (getD xs (at + 5) 0)) xs)))
   unfolding ensemblesFit
   ensembles-tests zero z = absurd (omega arith)
   ensembles-tests (suc n) z =
       let one : suc n - 1 ≡ n = omega arith in
-      rw one (simp (getD-drop at xs 5 0, drop-drop))
+      rw one (simp (getD-drop at xs 2 0, getD-drop at xs 5 0, drop-drop))
 
   -- ---- the ensemble at the place at, with k services: how many it says, the place of the first, and the place after them
 

@@ -44,7 +44,7 @@ pub length-unfit : (s n : ℕ) (ys : List ℕ) → ensemblesFit n ys ≡ false �
 length-unfit s n ys h = sym (ap (λ (t : Bool). cond t (s + ensemblesLength n ys) 0) h)
 
 module _ (xs : List ℕ) (at n : ℕ) where
-  pub length-next : (s : ℕ) → let k = getD xs (at + 5) 0 in 0 < n → enFits (drop at xs) ≡ true → servicesFit k (drop (at + enBytes) xs) ≡ true → lengthWith (s + (ensembleBytes + serviceBytes * k)) (n - 1) (drop (after at k) xs) ≡ lengthWith s n (drop at xs)
+  pub length-next : (s : ℕ) → let k = getD xs (at + 5) 0 in 0 < n → enFits (drop at xs) ≡ true → servicesFit (getD xs (at + 2) 0) k (drop (at + enBytes) xs) ≡ true → lengthWith (s + (ensembleBytes + serviceBytes * k)) (n - 1) (drop (after at k) xs) ≡ lengthWith s n (drop at xs)
   length-next s some fit own =
       let k : ℕ = getD xs (at + 5) 0 in
       let rest : ℕ = ensemblesLength (n - 1) (drop (after at k) xs) in

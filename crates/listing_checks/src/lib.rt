@@ -43,27 +43,31 @@ fn stands(listing: &[u8], at: usize, size: usize, first: u8, second: u8) -> bool
     marked(listing, at, first, second)
 }
 
-// Whether a service's record stands at a place of the listing, which has room for one there.
-fn service_fits(listing: &[u8], at: usize) -> bool
+// Whether a service's record, of the ensemble with this id, stands at a place of the listing, which has room for one there.
+fn service_fits(listing: &[u8], at: usize, ensemble: u8) -> bool
     requires { ⌜ at + svBytes ≤ length (now listing) ⌝ }
-    ensures { λ r. ⌜ r ≡ svFits (drop at (now (listing .entry))) ⌝ }
+    ensures { λ r. ⌜ r ≡ svFits ensemble (drop at (now (listing .entry))) ⌝ }
 {
     if !marked(listing, at, b'S', b'V') {
         return false;
     }
-    if MOST_MULTI < listing[at + 4] {
+    let own = listing[at + 2];
+    if own != ensemble {
         return false;
     }
-    if MOST_STATUS < listing[at + 5] {
+    if MOST_MULTI < listing[at + 5] {
         return false;
     }
-    listing[at + 6] <= MOST_SP
+    if MOST_STATUS < listing[at + 6] {
+        return false;
+    }
+    listing[at + 7] <= MOST_SP
 }
 
-// Whether the records of count services stand from a place of the listing on.
-fn services_fit(listing: &[u8], from: usize, count: u8) -> bool
+// Whether the records of count services, of the ensemble with this id, stand from a place of the listing on.
+fn services_fit(listing: &[u8], from: usize, ensemble: u8, count: u8) -> bool
     requires { ⌜ from ≤ length (now listing) ⌝ }
-    ensures { λ r. ⌜ r ≡ servicesFit count (drop from (now (listing .entry))) ⌝ }
+    ensures { λ r. ⌜ r ≡ servicesFit ensemble count (drop from (now (listing .entry))) ⌝ }
 {
     // one test of the length for all of them
     if listing.len() - from < SV_BYTES * count as usize {
@@ -72,7 +76,7 @@ fn services_fit(listing: &[u8], from: usize, count: u8) -> bool
     let mut at = from;
     let mut left = count;
     while 0 < left {
-        if !service_fits(listing, at) {
+        if !service_fits(listing, at, ensemble) {
             return false;
         }
         at += SV_BYTES;
@@ -108,9 +112,10 @@ fn ensembles_length(listing: &[u8], from: usize, count: usize) -> usize
         if !ensemble_fits(listing, at) {
             return 0;
         }
+        let id = listing[at + 2];
         let said = listing[at + 5];
         let inside = at + EN_BYTES;
-        if !services_fit(listing, inside, said) {
+        if !services_fit(listing, inside, id, said) {
             return 0;
         }
         let services = said as usize;

@@ -7,7 +7,7 @@ use native.Mathlib.Omega.{arith}
 use borrow.Author.Tests.{eq-eqb, ne-eqb}
 use lib.ListN.{length, getD, drop, set, length-append, length-drop}
 use lib.Seq.{getD-drop, drop-drop, sets}
-use Rattle.octets.proofs.Laws.{getD-there, word-there}
+use Rattle.octets.proofs.Laws.{getD-there, word-there, high-word, low-word}
 use Rattle.octets.proofs.Stores.{stores, stored, sets-append}
 use Rattle.octets.specs.Word.{word, high, low}
 use Rattle.meaning.specs.declared.Checked.the-variants.{Fine}
@@ -21,15 +21,17 @@ use Rattle.chunk_checks.proofs.Laws.{version-at, services-at, inside-at}
 
 -- ---- the records, as the code stores their bytes
 
-pub service-stored : (xs l : List ℕ) (at to w hi lo : ℕ) → w ≡ word (getD xs at 0) (getD xs (at + 1) 0) → hi ≡ high w → lo ≡ low w → let third = getD xs (at + 2) 0 in stores (set l to 0x53) to 1 (0x56 ∷ hi ∷ lo ∷ third / 8 % 4 ∷ third / 2 % 4 ∷ third % 2 ∷ []) ≡ sets l to (svRecord (serviceAt (drop at xs)))
-service-stored xs l at to w hi lo e p q =
-    let id : w ≡ word (getD (drop at xs) 0 0) (getD (drop at xs) 1 0) = e ∙ sym (word-there xs at) in
+pub service-stored : (xs l : List ℕ) (at ensemble to : ℕ) → getD xs (at + 1) 0 < 256 → let third = getD xs (at + 2) 0 in stores (set l to 0x53) to 1 (0x56 ∷ ensemble ∷ getD xs at 0 ∷ getD xs (at + 1) 0 ∷ third / 8 % 4 ∷ third / 2 % 4 ∷ third % 2 ∷ []) ≡ sets l to (svRecord ensemble (serviceAt (drop at xs)))
+service-stored xs l at ensemble to byte =
+    let a : ℕ = getD xs at 0 in
+    let b : ℕ = getD xs (at + 1) 0 in
     let t : ℕ = getD xs (at + 2) 0 in
+    let id : word a b ≡ word (getD (drop at xs) 0 0) (getD (drop at xs) 1 0) = sym (word-there xs at) in
+    let first : a ≡ high (word (getD (drop at xs) 0 0) (getD (drop at xs) 1 0)) = sym (high-word a b byte) ∙ ap high id in
+    let second : b ≡ low (word (getD (drop at xs) 0 0) (getD (drop at xs) 1 0)) = sym (low-word a b byte) ∙ ap low id in
     let third : t ≡ getD (drop at xs) 2 0 = sym (getD-drop at xs 2 0) in
-    let first = p ∙ ap high id in
-    let second = q ∙ ap low id in
-    stored 0x53 (0x56 ∷ hi ∷ lo ∷ t / 8 % 4 ∷ t / 2 % 4 ∷ t % 2 ∷ []) l to
-    ∙ (λ i. sets l to (0x53 ∷ 0x56 ∷ first i ∷ second i ∷ third i / 8 % 4 ∷ third i / 2 % 4 ∷ third i % 2 ∷ []))
+    stored 0x53 (0x56 ∷ ensemble ∷ a ∷ b ∷ t / 8 % 4 ∷ t / 2 % 4 ∷ t % 2 ∷ []) l to
+    ∙ (λ i. sets l to (0x53 ∷ 0x56 ∷ ensemble ∷ first i ∷ second i ∷ third i / 8 % 4 ∷ third i / 2 % 4 ∷ third i % 2 ∷ []))
 
 pub unknown-stored : (xs l : List ℕ) (at to : ℕ) → stores (set l to 0x45) to 1 (0x55 ∷ getD xs at 0 ∷ getD xs (at + 1) 0 % 32 ∷ []) ≡ sets l to (euRecord (unknownAt (drop at xs)))
 unknown-stored xs l at to =
@@ -37,7 +39,7 @@ unknown-stored xs l at to =
     let version = sym (version-at xs at 0 0) in
     stored 0x45 (0x55 ∷ getD xs at 0 ∷ getD xs (at + 1) 0 % 32 ∷ []) l to ∙ (λ i. sets l to (0x45 ∷ 0x55 ∷ id i ∷ version i ∷ []))
 
-pub known-stored : (xs l m : List ℕ) (at to e s : ℕ) → let third = getD xs (at + 2) 0 in let count = getD xs (at + (3 + e)) 0 in m ≡ sets (stores (set l to 0x45) to 1 (0x4E ∷ getD xs at 0 ∷ third / 32 ∷ third % 32 ∷ count ∷ [])) (to + enBytes) (flatMap svRecord (servicesAt s count (drop (at + (ensembleBytes + e)) xs))) → m ≡ sets l to (ensembleListing (known (knownAt e s (drop at xs))))
+pub known-stored : (xs l m : List ℕ) (at to e s : ℕ) → let third = getD xs (at + 2) 0 in let count = getD xs (at + (3 + e)) 0 in m ≡ sets (stores (set l to 0x45) to 1 (0x4E ∷ getD xs at 0 ∷ third / 32 ∷ third % 32 ∷ count ∷ [])) (to + enBytes) (flatMap (svRecord (getD xs at 0)) (servicesAt s count (drop (at + (ensembleBytes + e)) xs))) → m ≡ sets l to (ensembleListing (known (knownAt e s (drop at xs))))
 unfolding ensembleListing
 known-stored xs l m at to e s is =
     let ys : List ℕ = drop at xs in
@@ -52,10 +54,10 @@ known-stored xs l m at to e s is =
     let count = number ∙ sym (length-servicesAt s (servicesIn e ys) (inside e ys)) in
     let place = sym (inside-at xs at e s) in
     is
-    ∙ ap (λ (o : List ℕ). sets o (to + enBytes) (flatMap svRecord (servicesAt s (getD xs (at + (3 + e)) 0) (drop (at + (ensembleBytes + e)) xs))))
+    ∙ ap (λ (o : List ℕ). sets o (to + enBytes) (flatMap (svRecord (getD xs at 0)) (servicesAt s (getD xs (at + (3 + e)) 0) (drop (at + (ensembleBytes + e)) xs))))
     (stored 0x45 (0x4E ∷ getD xs at 0 ∷ getD xs (at + 2) 0 / 32 ∷ getD xs (at + 2) 0 % 32 ∷ getD xs (at + (3 + e)) 0 ∷ []) l to)
-    ∙ (λ i. sets (sets l to (0x45 ∷ 0x4E ∷ id i ∷ flags i ∷ third i % 32 ∷ count i ∷ [])) (to + enBytes) (flatMap svRecord (servicesAt s (number i) (place i))))
-    ∙ sym (sets-append (enRecord (knownAt e s ys)) (flatMap svRecord own) l to)
+    ∙ (λ i. sets (sets l to (0x45 ∷ 0x4E ∷ id i ∷ flags i ∷ third i % 32 ∷ count i ∷ [])) (to + enBytes) (flatMap (svRecord (id i)) (servicesAt s (number i) (place i))))
+    ∙ sym (sets-append (enRecord (knownAt e s ys)) (flatMap (svRecord (getD ys 0 0)) own) l to)
 
 -- a known ensemble's records, by their lengths; and which sort an ensemble is, by the byte that the code looks at
 module _ (xs : List ℕ) (at e s : ℕ) where
@@ -64,7 +66,7 @@ module _ (xs : List ℕ) (at e s : ℕ) where
   length-known =
       let ys : List ℕ = drop at xs in
       let own : List Service = servicesAt s (servicesIn e ys) (inside e ys) in
-      omega (arith, length-records own, length-servicesAt s (servicesIn e ys) (inside e ys))
+      omega (arith, length-records (getD ys 0 0) own, length-servicesAt s (servicesIn e ys) (inside e ys))
 
   pub known-there : getD xs (at + 1) 0 % 32 ≡ 0 → ensembleListing (ensembleAt e s (drop at xs)) ≡ ensembleListing (known (knownAt e s (drop at xs)))
   known-there v = simp (eq-eqb _ _ (version-at xs at e s ∙ v)) refl
@@ -84,20 +86,20 @@ pub row-rest : (at w L n : ℕ) → 0 < n → at + n * w ≤ L → at + w + (n -
 row-rest at w L zero z h = absurd (omega arith)
 row-rest at w L (suc n) z h = let one : suc n - 1 ≡ n = omega arith in rw one (omega arith)
 
-pub services-next : (xs l m : List ℕ) (at to s n : ℕ) → 0 < n → m ≡ sets l to (svRecord (serviceAt (drop at xs))) → sets m (to + svBytes) (flatMap svRecord (servicesAt s (n - 1) (drop (at + (serviceBytes + s)) xs))) ≡ sets l to (flatMap svRecord (servicesAt s n (drop at xs)))
-services-next xs l m at to s zero z e = absurd (omega arith)
-services-next xs l m at to s (suc n) z e =
+pub services-next : (xs l m : List ℕ) (at ensemble to s n : ℕ) → 0 < n → m ≡ sets l to (svRecord ensemble (serviceAt (drop at xs))) → sets m (to + svBytes) (flatMap (svRecord ensemble) (servicesAt s (n - 1) (drop (at + (serviceBytes + s)) xs))) ≡ sets l to (flatMap (svRecord ensemble) (servicesAt s n (drop at xs)))
+services-next xs l m at ensemble to s zero z e = absurd (omega arith)
+services-next xs l m at ensemble to s (suc n) z e =
     let one : suc n - 1 ≡ n = omega arith in
-    let rest : List ℕ = flatMap svRecord (servicesAt s n (drop (serviceBytes + s) (drop at xs))) in
-    ap (λ (k : ℕ). sets m (to + svBytes) (flatMap svRecord (servicesAt s k (drop (at + (serviceBytes + s)) xs)))) one
-    ∙ ap₂ (λ (o t : List ℕ). sets o (to + svBytes) (flatMap svRecord (servicesAt s n t))) e (sym (drop-drop (serviceBytes + s) at xs))
-    ∙ sym (sets-append (svRecord (serviceAt (drop at xs))) rest l to)
+    let rest : List ℕ = flatMap (svRecord ensemble) (servicesAt s n (drop (serviceBytes + s) (drop at xs))) in
+    ap (λ (k : ℕ). sets m (to + svBytes) (flatMap (svRecord ensemble) (servicesAt s k (drop (at + (serviceBytes + s)) xs)))) one
+    ∙ ap₂ (λ (o t : List ℕ). sets o (to + svBytes) (flatMap (svRecord ensemble) (servicesAt s n t))) e (sym (drop-drop (serviceBytes + s) at xs))
+    ∙ sym (sets-append (svRecord ensemble (serviceAt (drop at xs))) rest l to)
     ∙ unfold flatMap servicesAt in refl
 
-pub services-none : (xs l : List ℕ) (at to s n : ℕ) → n ≤ 0 → sets l to (flatMap svRecord (servicesAt s n (drop at xs))) ≡ l
+pub services-none : (xs l : List ℕ) (at ensemble to s n : ℕ) → n ≤ 0 → sets l to (flatMap (svRecord ensemble) (servicesAt s n (drop at xs))) ≡ l
 unfolding flatMap servicesAt
-services-none xs l at to s zero z = refl
-services-none xs l at to s (suc n) z = absurd (omega arith)
+services-none xs l at ensemble to s zero z = refl
+services-none xs l at ensemble to s (suc n) z = absurd (omega arith)
 
 -- ---- one ensemble after the other: n from the place at on, that passed, the first of them with k services
 

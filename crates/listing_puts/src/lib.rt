@@ -17,32 +17,42 @@ ghost use Rattle.meaning.specs.Lists.{known};
 ghost use Rattle.meaning.specs.Listing.{svRecord, euRecord, ensembleListing, listing};
 ghost use Rattle.meaning.specs.Reading.{checks, ensemblesChecks, serviceAt, servicesAt, knownAt, unknownAt, ensembleAt, ensemblesAt, servicesIn, servicesRoom, listIn};
 
-// The record of the service at a place of the chunk, put at a place of the output.
-fn write_service(chunk: &[u8], at: usize, out: &mut [u8], to: usize)
+// The record of the service at a place of the chunk, of the ensemble with this id, put at a place of the output.
+fn write_service(chunk: &[u8], at: usize, ensemble: u8, out: &mut [u8], to: usize)
     requires { ⌜ (at + serviceBytes ≤ length (now chunk)) × (to + svBytes ≤ length (now out)) ⌝ }
-    ensures { λ _. ⌜ now (out .exit) ≡ sets (now (out .entry)) to (svRecord (serviceAt (drop at (now (chunk .entry))))) ⌝ }
+    ensures { λ _. ⌜ now (out .exit) ≡ sets (now (out .entry)) to (svRecord ensemble (serviceAt (drop at (now (chunk .entry))))) ⌝ }
 {
-    let id = octets::word_of(chunk[at], chunk[at + 1]);
+    let high = chunk[at];
+    let low = chunk[at + 1];
     let third = chunk[at + 2];
     out[to] = b'S';
     out[to + 1] = b'V';
-    out[to + 2] = octets::high_of(id);
-    out[to + 3] = octets::low_of(id);
-    out[to + 4] = third / 8 % 4;
-    out[to + 5] = third / 2 % 4;
-    out[to + 6] = third % 2;
+    out[to + 2] = ensemble;
+    out[to + 3] = high;
+    out[to + 4] = low;
+    out[to + 5] = third / 8 % 4;
+    out[to + 6] = third / 2 % 4;
+    out[to + 7] = third % 2;
 }
 
-// The records of count services from a place of the chunk on, their extensions s bytes long.
-fn write_services(chunk: &[u8], from: usize, s: usize, count: usize, out: &mut [u8], start: usize)
+// The records of count services from a place of the chunk on, their extensions s bytes long, of the ensemble with this id.
+fn write_services(
+    chunk: &[u8],
+    from: usize,
+    s: usize,
+    ensemble: u8,
+    count: usize,
+    out: &mut [u8],
+    start: usize,
+)
     requires { ⌜ (from + count * (serviceBytes + s) ≤ length (now chunk)) × (start + svBytes * count ≤ length (now out)) ⌝ }
-    ensures { λ _. ⌜ now (out .exit) ≡ sets (now (out .entry)) start (flatMap svRecord (servicesAt s count (drop from (now (chunk .entry))))) ⌝ }
+    ensures { λ _. ⌜ now (out .exit) ≡ sets (now (out .entry)) start (flatMap (svRecord ensemble) (servicesAt s count (drop from (now (chunk .entry))))) ⌝ }
 {
     let mut at = from;
     let mut to = start;
     let mut left = count;
     while 0 < left {
-        write_service(chunk, at, out, to);
+        write_service(chunk, at, ensemble, out, to);
         at += SERVICE_BYTES + s;
         to += SV_BYTES;
         left -= 1;
@@ -67,11 +77,12 @@ fn write_known(chunk: &[u8], at: usize, e: usize, s: usize, out: &mut [u8], to: 
     ensures { λ r. ⌜ r ≡ to + (enBytes + svBytes * servicesIn e (drop at (now (chunk .entry)))) ⌝ }
     ensures { λ _. ⌜ now (out .exit) ≡ sets (now (out .entry)) to (ensembleListing (known (knownAt e s (drop at (now (chunk .entry)))))) ⌝ }
 {
+    let id = chunk[at];
     let third = chunk[at + 2];
     let services = chunk[at + (3 + e)];
     out[to] = b'E';
     out[to + 1] = b'N';
-    out[to + 2] = chunk[at];
+    out[to + 2] = id;
     out[to + 3] = third / 32;
     out[to + 4] = third % 32;
     out[to + 5] = services;
@@ -80,6 +91,7 @@ fn write_known(chunk: &[u8], at: usize, e: usize, s: usize, out: &mut [u8], to: 
         chunk,
         at + (ENSEMBLE_BYTES + e),
         s,
+        id,
         count,
         out,
         to + EN_BYTES,

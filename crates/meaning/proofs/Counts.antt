@@ -37,16 +37,16 @@ stands-and mark n zs {t} h =
     let p = and-eq-true-iff (stands mark n zs) t .0 h in
     (leb-and n (length zs) (p .0) .0, p .1)
 
-sv-room : (zs : List ℕ) → svFits zs ≡ true → svBytes ≤ length zs
+sv-room : (e : ℕ) (zs : List ℕ) → svFits e zs ≡ true → svBytes ≤ length zs
 unfolding svFits
-sv-room zs h = stands-and markSV svBytes zs h .0
+sv-room e zs h = stands-and markSV svBytes zs h .0
 
-pub services-room : (n : ℕ) (zs : List ℕ) → servicesFit n zs ≡ true → svBytes * n ≤ length zs
+pub services-room : (e n : ℕ) (zs : List ℕ) → servicesFit e n zs ≡ true → svBytes * n ≤ length zs
 unfolding servicesFit
-services-room zero zs h = omega arith
-services-room (suc n) zs h =
+services-room e zero zs h = omega arith
+services-room e (suc n) zs h =
     let p = and-eq-true-iff _ _ .0 h in
-    omega (arith, sv-room zs (p .0), services-room n (drop svBytes zs) (p .1), length-drop svBytes zs)
+    omega (arith, sv-room e zs (p .0), services-room e n (drop svBytes zs) (p .1), length-drop svBytes zs)
 
 pub en-room : (ys : List ℕ) → enFits ys ≡ true → enBytes ≤ length ys
 unfolding enFits

@@ -1,4 +1,4 @@
--- How long a listing is: from the counts, and at the most 1,292 bytes for a chunk that is accepted. Assumes nothing.
+-- How long a listing is: from the counts, and at the most 1,475 bytes for a chunk that is accepted. Assumes nothing.
 use mathlib.Core.Path.{_≡_, refl, ap}
 use mathlib.Core.Logic.{⊎-elim}
 use mathlib.Core.List.{List, [], _∷_, flatMap}
@@ -18,10 +18,10 @@ use Rattle.meaning.proofs.Checks.{ensemble-passes, header-passes}
 
 -- ---- from the counts
 
-pub length-records : (vs : List Service) → length (flatMap svRecord vs) ≡ svBytes * length vs
+pub length-records : (e : ℕ) (vs : List Service) → length (flatMap (svRecord e) vs) ≡ svBytes * length vs
 unfolding flatMap
-length-records [] = refl
-length-records (v ∷ vs) = omega (arith, length-append (svRecord v) (flatMap svRecord vs), length-records vs)
+length-records e [] = refl
+length-records e (v ∷ vs) = omega (arith, length-append (svRecord e v) (flatMap (svRecord e) vs), length-records e vs)
 
 length-ensembles : (es : List Ensemble) → length (flatMap ensembleListing es) ≡ enBytes * knownCount es + euBytes * unknownCount es + svBytes * length (flatMap ensembleServices es)
 unfolding flatMap knownCount unknownCount ensembleListing
@@ -29,9 +29,9 @@ length-ensembles [] = refl
 length-ensembles (known e ∷ es) =
     omega (
       arith,
-      length-append (flatMap svRecord (e .services)) (flatMap ensembleListing es),
+      length-append (flatMap (svRecord (e .id)) (e .services)) (flatMap ensembleListing es),
       length-append (e .services) (flatMap ensembleServices es),
-      length-records (e .services),
+      length-records (e .id) (e .services),
       length-ensembles es,
     )
 length-ensembles (unknown u ∷ es) = omega (arith, length-ensembles es)

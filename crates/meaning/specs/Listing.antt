@@ -1,4 +1,5 @@
--- Document 01, "Listing", with document 02's record for an unknown ensemble: a list in the house form, a two-byte mark before each record.
+-- Document 01, "Listing", with document 02's record for an unknown ensemble and the ensemble's id in a service's: a list in the house form, a
+-- two-byte mark before each record.
 use Prim.Native.Nat.{ℕ, _+_, _*_}
 use mathlib.Core.List.{List, [], _∷_, _++_, flatMap}
 use lib.ListN.{length}
@@ -35,13 +36,13 @@ enRecord e = markEN ++ (e .id ∷ flags e ∷ e .channel ∷ length (e .services
 abbrev pub euRecord : Unknown → List ℕ
 euRecord u = markEU ++ (u .id ∷ u .version ∷ [])
 
--- SV, id, multi, status, SP
-abbrev pub svRecord : Service → List ℕ
-svRecord v = markSV ++ wordBytes (v .id) ++ (v .multi ∷ v .status ∷ v .sp ∷ [])
+-- SV, the id of the service's ensemble, id, multi, status, SP
+abbrev pub svRecord : ℕ → Service → List ℕ
+svRecord ensemble v = markSV ++ (ensemble ∷ []) ++ wordBytes (v .id) ++ (v .multi ∷ v .status ∷ v .sp ∷ [])
 
 -- an ensemble, then its services; of an unknown one its record alone
 unfoldable pub ensembleListing : Ensemble → List ℕ
-ensembleListing (known e) = enRecord e ++ flatMap svRecord (e .services)
+ensembleListing (known e) = enRecord e ++ flatMap (svRecord (e .id)) (e .services)
 ensembleListing (unknown u) = euRecord u
 
 -- the stream, then its ensembles

@@ -20,22 +20,23 @@ marked mark zs = same (take markBytes zs) mark
 abbrev pub stands : List ℕ → ℕ → List ℕ → Bool
 stands mark n zs = leb n (length zs) && marked mark zs
 
--- ---- a service's record at the start of zs, and n of them
+-- ---- a service's record at the start of zs, and n of them, of the ensemble with this id: each has to have it
 
-unfoldable pub svFits : List ℕ → Bool
-svFits zs =
+unfoldable pub svFits : ℕ → List ℕ → Bool
+svFits ensemble zs =
     stands markSV svBytes zs
-    && (leb (getD zs 4 0) mostMulti
-    && (leb (getD zs 5 0) mostStatus
-    && leb (getD zs 6 0) mostSP))
+    && (eqb (getD zs 2 0) ensemble
+    && (leb (getD zs 5 0) mostMulti
+    && (leb (getD zs 6 0) mostStatus
+    && leb (getD zs 7 0) mostSP)))
 
 abbrev pub serviceSaid : List ℕ → Service
 serviceSaid zs =
-    record { id = word (getD zs 2 0) (getD zs 3 0); multi = getD zs 4 0; status = getD zs 5 0; sp = getD zs 6 0 }
+    record { id = word (getD zs 3 0) (getD zs 4 0); multi = getD zs 5 0; status = getD zs 6 0; sp = getD zs 7 0 }
 
-unfoldable pub servicesFit : ℕ → List ℕ → Bool
-servicesFit zero zs = true
-servicesFit (suc n) zs = svFits zs && servicesFit n (drop svBytes zs)
+unfoldable pub servicesFit : ℕ → ℕ → List ℕ → Bool
+servicesFit ensemble zero zs = true
+servicesFit ensemble (suc n) zs = svFits ensemble zs && servicesFit ensemble n (drop svBytes zs)
 
 unfoldable pub servicesSaid : ℕ → List ℕ → List Service
 servicesSaid zero zs = []
@@ -46,7 +47,10 @@ servicesSaid (suc n) zs = serviceSaid zs ∷ servicesSaid n (drop svBytes zs)
 unfoldable pub enFits : List ℕ → Bool
 enFits ys = stands markEN enBytes ys && (leb (getD ys 3 0) mostFlags && leb (getD ys 4 0) mostChannel)
 
--- how many services it says; what follows it, and what follows its services
+-- the id and how many services it says; what follows it, and what follows its services
+abbrev pub idSaid : List ℕ → ℕ
+idSaid ys = getD ys 2 0
+
 abbrev pub countSaid : List ℕ → ℕ
 countSaid ys = getD ys 5 0
 
@@ -59,7 +63,7 @@ afterServices ys = drop (svBytes * countSaid ys) (afterEN ys)
 abbrev pub ensembleSaid : List ℕ → Known
 ensembleSaid ys =
     record {
-      id = getD ys 2 0;
+      id = idSaid ys;
       slt = getD ys 3 0 / 4;
       gat = getD ys 3 0 / 2 % 2;
       eat = getD ys 3 0 % 2;
@@ -71,7 +75,7 @@ ensembleSaid ys =
 
 unfoldable pub ensemblesFit : ℕ → List ℕ → Bool
 ensemblesFit zero ys = eqb (length ys) 0
-ensemblesFit (suc n) ys = enFits ys && (servicesFit (countSaid ys) (afterEN ys) && ensemblesFit n (afterServices ys))
+ensemblesFit (suc n) ys = enFits ys && (servicesFit (idSaid ys) (countSaid ys) (afterEN ys) && ensemblesFit n (afterServices ys))
 
 unfoldable pub ensemblesSaid : ℕ → List ℕ → List Ensemble
 ensemblesSaid zero ys = []

@@ -26,7 +26,7 @@ abbrev pub euBytes : ℕ
 euBytes = 4
 
 abbrev pub svBytes : ℕ
-svBytes = 7
+svBytes = 8
 
 -- the greatest flags, channel version, multi, status and SP of a listing
 abbrev pub mostFlags : ℕ
@@ -46,4 +46,4 @@ mostSP = 1
 
 -- the longest listing of a chunk
 abbrev pub longestListing : ℕ
-longestListing = 1292
+longestListing = 1475

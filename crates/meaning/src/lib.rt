@@ -60,7 +60,7 @@ pub const ENSEMBLE_BYTES: usize = 4;
 pub const SERVICE_BYTES: usize = 3;
 
 // The longest listing of a chunk, and the listing's four records.
-pub const LONGEST_LISTING: usize = 1292;
+pub const LONGEST_LISTING: usize = 1475;
 
 pub const TS_BYTES: usize = 5;
 
@@ -68,7 +68,7 @@ pub const EN_BYTES: usize = 6;
 
 pub const EU_BYTES: usize = 4;
 
-pub const SV_BYTES: usize = 7;
+pub const SV_BYTES: usize = 8;
 
 // The greatest flags, channel version, multi, status and SP of a listing.
 pub const MOST_FLAGS: u8 = 7;

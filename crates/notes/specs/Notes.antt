@@ -20,7 +20,7 @@ abbrev pub emptiedNotes : ℕ → ℕ → Bool → Notes
 emptiedNotes shown coming swapped =
     record { this = emptySlot; next = emptySlot; shown = shown; coming = coming; swapped = swapped }
 
--- 0, or 5 to 1,292
+-- 0, or 5 to 1,475
 abbrev pub lengthFits : ℕ → Bool
 lengthFits n = eqb n 0 || leb tsBytes n && leb n longestListing
 

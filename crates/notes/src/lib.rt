@@ -82,7 +82,7 @@ impl Notes {
     }
 }
 
-// A length of a listing: 0, or 5 to 1,292. Internal.
+// A length of a listing: 0, or 5 to 1,475. Internal.
 pub fn length_fits(n: usize) -> bool
     ensures { λ r. ⌜ r ≡ lengthFits n ⌝ }
 {

@@ -24,7 +24,7 @@ use Rattle.meaning.specs.Said.{listingFits, listSaid}
 use Rattle.meaning.specs.Plain.{Fits, Oldest, VersionsZero}
 use Rattle.meaning.specs.Reading.{ensemblesChecks, checks, readChecks, readAnswer, ReadSays}
 use Rattle.meaning.proofs.Answers as reading
-use Rattle.meaning.proofs.Said.{fitting-known}
+use Rattle.meaning.proofs.Said.{other-unfit, fitting-known}
 use Rattle.segments.specs.Segment.{Head, headFields, segment}
 use Rattle.segments.specs.Cut.{segmentCount, Choice, Suits, pieceOf}
 use Rattle.segments.proofs.Heads.{head-read}
@@ -53,7 +53,7 @@ use Rattle.lines.specs.Lines.{longestLines}
 use Rattle.replay.specs.Log.{logForm, printed, printedWith, logProgram}
 use Rattle.replay.proofs.Log.{printed-program}
 use Rattle.promises.specs.Before.{ensemblesNumber, chunkNumber}
-use Rattle.promises.specs.Says.{ReadRefused, ReadList, ChunkListed, WriteRefused, WriteAnswered, Sendable, countFor, Alike, SameSlot, SameToAll, FieldsRead, withBits, Begins, ReadBack, ReadWhole, WrittenBack, OtherMajorChunk, AllRefused, orderLines, ReadParts, WriteParts}
+use Rattle.promises.specs.Says.{ReadRefused, ReadList, ChunkListed, WriteRefused, WriteAnswered, Sendable, OfAnother, countFor, Alike, SameSlot, SameToAll, FieldsRead, withBits, Begins, ReadBack, ReadWhole, WrittenBack, OtherMajorChunk, AllRefused, orderLines, ReadParts, WriteParts}
 
 -- ---- the reader and the writer
 
@@ -79,6 +79,12 @@ unknown-refused l fits unknown k output space =
     either (listingFits (listing l))
     (λ formed. absurd (unknown (fitting-known l fits formed)))
     (λ bad. writing.answer-bad (listing l) k output space bad)
+
+-- nor one with a service of another ensemble
+pub other-refused : (xs : List ℕ) → OfAnother xs → (k : Kind) (output : List ℕ) → shortestOutput ≤ length output → writeAnswer xs k output ≡ NotWritten BadListing
+other-refused xs o k output space =
+    writing.answer-bad xs k output space
+    (ap listingFits (o .said) ∙ other-unfit (o .stream) (o .ensembles) (o .before) (o .further) (o .own) (o .services) (o .more) (o .other) (o .differs) (o .service) (o .behind))
 
 -- ---- round trips
 

@@ -84,7 +84,7 @@ use Rattle.replay.proofs.Samples.{sampleLog, sampleText, start, sample-printed}
 use Rattle.lukasembo.specs.Packed.{packedRead, packedWritten}
 use Rattle.gatherings.proofs.Rounds.{carried-short, written-so-many}
 use Rattle.promises.specs.Before.{chunkNumber}
-use Rattle.promises.specs.Says.{Sendable, countFor, Alike, SameSlot, SameToAll, FieldsRead, withBits, Begins, orderLines, ReadParts, WriteParts}
+use Rattle.promises.specs.Says.{Sendable, OfAnother, countFor, Alike, SameSlot, SameToAll, FieldsRead, withBits, Begins, orderLines, ReadParts, WriteParts}
 use Rattle.promises.proofs.Fields as fields
 
 -- ---- layouts: reserved bits, extensions, stuffing, the minor edition and what is inside an unknown ensemble are disregarded; the listing's length
@@ -166,7 +166,7 @@ module _ (l : FicList) where
   pub listing-length : length (listing l) ≡ tsBytes + enBytes * knownCount es + euBytes * unknownCount es + svBytes * length (servicesOf l)
   listing-length = length-listing l
 
--- 1,292 bytes are enough for every accepted chunk, and are reached
+-- 1,475 bytes are enough for every accepted chunk, and are reached
 pub longest-is-enough : (xs : List ℕ) → checks xs ≡ Fine → length (listing (listIn xs)) ≤ longestListing
 longest-is-enough = listing-fits
 
@@ -284,6 +284,11 @@ fitting-well-formed l f k = let formed = listing-fitting l f k in (bytes-listing
 module _ (l : FicList) (fits : Fits l) (unknown : AllKnown l → ⊥) where
   pub unknown-not-written : (k : Kind) (output : List ℕ) → shortestOutput ≤ length output → writeAnswer (listing l) k output ≡ NotWritten BadListing
   unknown-not-written = fields.unknown-refused l fits unknown
+
+-- and so is one with a service of another ensemble than that of the `EN` above it
+module _ (xs : List ℕ) (o : OfAnother xs) where
+  pub other-not-written : (k : Kind) (output : List ℕ) → shortestOutput ≤ length output → writeAnswer xs k output ≡ NotWritten BadListing
+  other-not-written = fields.other-refused xs o
 
 -- and any listing, also one with unknown ensembles, is of one list only
 pub one-list-only : (l m : FicList) → Fits l → Fits m → listing l ≡ listing m → l ≡ m

@@ -8,15 +8,16 @@ use lib.ListN.{length, take, drop}
 use Rattle.octets.specs.Bits.{Bytes}
 use Rattle.octets.specs.Checks.{among}
 use Rattle.octets.specs.Each.{Each}
+use Rattle.octets.specs.Word.{wordBytes}
 use Rattle.meaning.specs.declared.Kind.{Kind}
 use Rattle.meaning.specs.declared.Refusal.{Refusal}
 use Rattle.meaning.specs.declared.Refusal.the-variants.{OtherMajor}
 use Rattle.meaning.specs.declared.Read.the-variants.{Listed}
 use Rattle.meaning.specs.Sizes.{longestChunk, longestListing}
 use Rattle.meaning.specs.Numbers.{numberOf, offsetOf, readValues}
-use Rattle.meaning.specs.Lists.{FicList, kindOf, currentOf}
+use Rattle.meaning.specs.Lists.{Service, Known, known, FicList, kindOf, currentOf}
 use Rattle.meaning.specs.Layout.{Carries}
-use Rattle.meaning.specs.Listing.{listing}
+use Rattle.meaning.specs.Listing.{markTS, markEN, flags, svRecord, ensembleListing, listing}
 use Rattle.meaning.specs.Said.{listingFits, listSaid}
 use Rattle.meaning.specs.Plain.{plainLength}
 use Rattle.meaning.specs.Reading.{majorIn, readAnswer, readBuffer, ReadSays}
@@ -75,6 +76,21 @@ pub record Sendable (xs : List ℕ) : Type 0 where
   pub bytes : Bytes xs
   pub fits : listingFits xs ≡ true
   pub room : plainLength (listSaid xs) ≤ longestChunk
+
+-- a listing up to a service's record with another id than that of the ensemble above it, which counts one more service there; anything behind it
+pub record OfAnother (xs : List ℕ) : Type 0 where
+  pub stream : ℕ
+  pub ensembles : ℕ
+  pub before : List Known
+  pub further : length before < ensembles
+  pub own : Known
+  pub services : ℕ
+  pub more : length (own .services) < services
+  pub other : ℕ
+  pub differs : other ≡ own .id → ⊥
+  pub service : Service
+  pub behind : List ℕ
+  pub said : xs ≡ markTS ++ wordBytes stream ++ (ensembles ∷ []) ++ (flatMap ensembleListing (map known before) ++ (markEN ++ (own .id ∷ flags own ∷ own .channel ∷ services ∷ []) ++ (flatMap (svRecord (own .id)) (own .services) ++ (svRecord other service ++ behind))))
 
 -- so many segments are written for it
 abbrev pub countFor : List ℕ → ℕ

@@ -6,7 +6,7 @@ use made::Made;
 use meaning::LONGEST_LISTING;
 use meaning::Read;
 
-const ROOM: usize = 1400;
+const ROOM: usize = 1500;
 
 const BEFORE: u8 = 0xA5;
 
@@ -213,6 +213,15 @@ fn cuts() {
     );
 }
 
+// Services of more than one ensemble, each with its own one's id.
+fn owners() {
+    run(
+        b"services of three ensembles",
+        b"\x00\x03\x01\x23\x03\x05\xE0\x83\x01\x0A\x01\xE6\x06\xE0\x83\x02\x0B\x01\xE6\x0B\x02\xE6\x07\xE0\x83\x01\x0C\x01\xE6",
+        LONGEST_LISTING,
+    );
+}
+
 // The longest chunks, and those a byte longer or shorter.
 fn longest() {
     let one = Made::new()
@@ -284,11 +293,11 @@ fn stuffed() {
 fn buffers() {
     let first = Made::of(b"\x00\x03\x01\x23\x01\x05\xE0\x83\x01\x0A\x01\xE6");
     run_made(b"buffer of 0", first, 0);
-    run_made(b"buffer of 1291", first, LONGEST_LISTING - 1);
-    run_made(b"buffer of 1292", first, LONGEST_LISTING);
-    run_made(b"buffer of 1400", first, ROOM);
+    run_made(b"buffer of 1474", first, LONGEST_LISTING - 1);
+    run_made(b"buffer of 1475", first, LONGEST_LISTING);
+    run_made(b"buffer of 1500", first, ROOM);
     run_made(
-        b"buffer of 1291, chunk of 561",
+        b"buffer of 1474, chunk of 561",
         first.fill(549, 0),
         LONGEST_LISTING - 1,
     );
@@ -300,6 +309,7 @@ fn main() {
     unknown();
     counts();
     cuts();
+    owners();
     longest();
     all_unknown();
     extended();

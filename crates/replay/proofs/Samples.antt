@@ -32,10 +32,10 @@ start = state fresh (zeros longestListing) (zeros longestListing)
 -- the six lines
 abbrev pub sampleText : List ℕ
 sampleText =
-    text "SG 0 list next 18\n"
-    ++ text "5453012301454e0504030153560a01000300\n"
-    ++ text "FR 18\n"
-    ++ text "5453012301454e0504030153560a01000300\n"
+    text "SG 0 list next 19\n"
+    ++ text "5453012301454e050403015356050a01000300\n"
+    ++ text "FR 19\n"
+    ++ text "5453012301454e050403015356050a01000300\n"
     ++ text "FR none\n"
     ++ text "END 0\n"
 

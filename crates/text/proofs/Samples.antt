@@ -5,7 +5,7 @@ use native.Mathlib.Omega.{arith}
 use Rattle.text.specs.Text.{text, decimal, decimalIn}
 use Rattle.text.proofs.Laws.{decimal-few}
 
-pub samples : map decimal (0 ∷ 7 ∷ 10 ∷ 1292 ∷ 65535 ∷ []) ≡ (text "0" ∷ text "7" ∷ text "10" ∷ text "1292" ∷ text "65535" ∷ [])
+pub samples : map decimal (0 ∷ 7 ∷ 10 ∷ 1475 ∷ 65535 ∷ []) ≡ (text "0" ∷ text "7" ∷ text "10" ∷ text "1475" ∷ text "65535" ∷ [])
 unfolding decimal decimalIn
 samples = refl
 

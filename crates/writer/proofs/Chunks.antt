@@ -12,7 +12,7 @@ use Rattle.meaning.specs.declared.Kind.{Kind}
 use Rattle.meaning.specs.Sizes.{tsBytes, enBytes, svBytes}
 use Rattle.meaning.specs.Lists.{known, currentOf}
 use Rattle.meaning.specs.Layout.{wire}
-use Rattle.meaning.specs.Said.{serviceSaid, servicesSaid, countSaid, afterEN, afterServices, ensembleSaid, ensemblesSaid, listingFits, listSaid}
+use Rattle.meaning.specs.Said.{serviceSaid, servicesSaid, idSaid, countSaid, afterEN, afterServices, ensembleSaid, ensemblesSaid, listingFits, listSaid}
 use Rattle.meaning.specs.Plain.{plainService, plainEnsemble, plain, plainLength}
 use Rattle.meaning.proofs.Counts.{length-servicesSaid, length-ensemblesSaid}
 use Rattle.meaning.proofs.Rows.{serviceThird, ensembleThird, chunkSecond, serviceRow, ensembleFront, ensembleRow, chunkFront, chunkRow, wire-row}
@@ -23,11 +23,11 @@ use Rattle.chunk_puts.specs.Laid.{serviceLaid, servicesLaid, ensembleLaid, ense
 service-laid : (zs : List ℕ) → Bytes zs → serviceLaid zs ≡ serviceRow (plainService (serviceSaid zs))
 unfolding serviceRow
 service-laid zs b =
-    let a : ℕ = getD zs 2 0 in
-    let d : ℕ = getD zs 3 0 in
-    let first = sym (high-word a d (getD-byte zs 3 b)) in
-    let second = sym (low-word a d (getD-byte zs 3 b)) in
-    let third : 224 + getD zs 4 0 * 8 + getD zs 5 0 * 2 + getD zs 6 0 ≡ serviceThird (plainService (serviceSaid zs)) = omega arith in
+    let a : ℕ = getD zs 3 0 in
+    let d : ℕ = getD zs 4 0 in
+    let first = sym (high-word a d (getD-byte zs 4 b)) in
+    let second = sym (low-word a d (getD-byte zs 4 b)) in
+    let third : 224 + getD zs 5 0 * 8 + getD zs 6 0 * 2 + getD zs 7 0 ≡ serviceThird (plainService (serviceSaid zs)) = omega arith in
     λ i. first i ∷ second i ∷ third i ∷ []
 
 services-laid : (n : ℕ) (zs : List ℕ) → Bytes zs → servicesLaid n zs ≡ flatMap serviceRow (map plainService (servicesSaid n zs))
@@ -42,7 +42,7 @@ ensemble-laid ys b =
     let third : f * 32 + getD ys 4 0 ≡ ensembleThird (plainEnsemble (known (ensembleSaid ys))) = omega (arith, div-div-eq-div-mul f 2 2) in
     let count = sym (length-map (servicesSaid (countSaid ys) (afterEN ys)) plainService ∙ length-servicesSaid (countSaid ys) (afterEN ys)) in
     let services = services-laid (countSaid ys) (afterEN ys) (bytes-drop enBytes ys b) in
-    λ i. getD ys 2 0 ∷ 224 ∷ third i ∷ count i ∷ services i
+    λ i. idSaid ys ∷ 224 ∷ third i ∷ count i ∷ services i
 
 ensembles-laid : (n : ℕ) (ys : List ℕ) → Bytes ys → ensemblesLaid n ys ≡ flatMap ensembleRow (map plainEnsemble (ensemblesSaid n ys))
 unfolding ensemblesLaid ensemblesSaid flatMap

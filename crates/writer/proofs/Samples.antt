@@ -14,12 +14,17 @@ use Rattle.writer.specs.Writing.{writtenValues, plainSegments, writeAnsw
 
 -- ---- listings
 
-services : ℕ → List ℕ
-services zero = []
-services (suc n) = 0x53 ∷ 0x56 ∷ 0x0A ∷ 0x01 ∷ 0 ∷ 3 ∷ 0 ∷ services n
+-- so many services of an ensemble
+services : ℕ → ℕ → List ℕ
+services id zero = []
+services id (suc n) = 0x53 ∷ 0x56 ∷ id ∷ 0x0A ∷ 0x01 ∷ 0 ∷ 3 ∷ 0 ∷ services id n
 
 ensemble : ℕ → List ℕ
-ensemble n = 0x45 ∷ 0x4E ∷ 5 ∷ 4 ∷ 3 ∷ n ∷ services n
+ensemble n = 0x45 ∷ 0x4E ∷ 5 ∷ 4 ∷ 3 ∷ n ∷ services 5 n
+
+-- an ensemble with a service of another one
+other : List ℕ
+other = 0x45 ∷ 0x4E ∷ 5 ∷ 4 ∷ 3 ∷ 1 ∷ services 6 1
 
 -- a stream whose ensembles have so many services
 stream : ℕ → List ℕ → List ℕ
@@ -56,11 +61,12 @@ samples =
     ∷ sample (stream 0 (1 ∷ [])) 13 0
     ∷ sample (stream 1 (184 ∷ []) ++ (0 ∷ [])) 13 0
     ∷ sample (stream 1 [] ++ unknown) 13 0
+    ∷ sample (stream 1 [] ++ other) 13 0
     ∷ sample (stream 2 (1 ∷ []) ++ unknown) 13 0
     ∷ []
 
 samples-hold : map (λ s. given (s .listing)) samples ≡ samples
-unfolding samples given sample output unknown stream ensemble services writeAnswer plainSegments wire chunkFields chunkHead ensembleFields ensembleHead serviceFields bytesOf octets number laid bits flatMap listingFits ensemblesFit enFits servicesFit svFits listSaid ensemblesSaid servicesSaid servicesOf upFrom
+unfolding samples given sample output unknown other stream ensemble services writeAnswer plainSegments wire chunkFields chunkHead ensembleFields ensembleHead serviceFields bytesOf octets number laid bits flatMap listingFits ensemblesFit enFits servicesFit svFits listSaid ensemblesSaid servicesSaid servicesOf upFrom
 samples-hold = refl
 
 -- the first of them: one segment, then the output as it was

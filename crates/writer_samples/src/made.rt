@@ -1,8 +1,8 @@
-// A listing that is put together byte by byte, by value. What comes after the 2048th byte is lost.
-const MOST: usize = 2048;
+// A listing that is put together byte by byte, by value. What comes after the 2560th byte is lost.
+const MOST: usize = 2560;
 
 pub struct Made {
-    pub bytes: [u8; 2048],
+    pub bytes: [u8; 2560],
     pub len: usize,
 }
 
@@ -103,6 +103,7 @@ impl Made {
     // A service: its fields go round with different periods.
     pub fn service(self, ensemble: u8, i: u8) -> Self {
         self.and(b"SV")
+            .with(ensemble)
             .with(127 - ensemble % 128)
             .with(i)
             .with(i % 4)

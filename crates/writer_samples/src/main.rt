@@ -4,12 +4,15 @@
 mod made;
 
 use made::Made;
+use meaning::EN_BYTES;
 use meaning::Kind;
 use meaning::MOST_CHANNEL;
 use meaning::MOST_FLAGS;
 use meaning::MOST_MULTI;
 use meaning::MOST_SP;
 use meaning::MOST_STATUS;
+use meaning::SV_BYTES;
+use meaning::TS_BYTES;
 use segments::MOST_SEGMENTS;
 use segments::PAYLOAD_BYTES;
 use segments::SEGMENT_BYTES;
@@ -86,10 +89,10 @@ fn show_at(name: &[u8], n: usize, kind: Kind, made: Made) {
 
 // Document 01's sample.
 fn first() -> Made {
-    Made::of(b"TS\x01\x23\x01EN\x05\x04\x03\x01SV\x0A\x01\x00\x03\x00")
+    Made::of(b"TS\x01\x23\x01EN\x05\x04\x03\x01SV\x05\x0A\x01\x00\x03\x00")
 }
 
-// Two ensembles with three services. Its records stand at 0, 5, 11, 18, 25 and 31, and it has 38 bytes.
+// Two ensembles with three services. Its records stand at 0, 5, 11, 19, 27 and 33, and it has 41 bytes.
 fn two() -> Made {
     Made::new().header(2).whole(0x2B, 2).whole(0x9D, 1)
 }
@@ -113,9 +116,15 @@ fn samples(kind: Kind) {
     show(
         b"ids like marks",
         kind,
-        Made::of(b"TSSV\x01ENT\x05\x13\x02SVEN\x01\x02\x00SVSV\x02\x01\x01"),
+        Made::of(b"TSSV\x01ENT\x05\x13\x02SVTEN\x01\x02\x00SVTSV\x02\x01\x01"),
     );
     show(b"two ensembles", kind, two());
+    // the first sample as it was before a service carried its ensemble
+    show(
+        b"old form",
+        kind,
+        Made::of(b"TS\x01\x23\x01EN\x05\x04\x03\x01SV\x0A\x01\x00\x03\x00"),
+    );
 }
 
 // Listings with an unknown ensemble, which the reader gives and the writer refuses.
@@ -155,7 +164,13 @@ fn too_long(kind: Kind) {
     show(b"255 ensembles, last byte 1", kind, most.ending(1));
     show(b"255 ensembles, cut", kind, most.cut(1534));
     show(b"255 ensembles, trailing byte", kind, most.with(0));
-    show(b"184 services, last SP 2", kind, one(184).ending(2));
+    let long = one(184);
+    show(b"184 services, last SP 2", kind, long.ending(2));
+    show(
+        b"184 services, last of ensemble 1",
+        kind,
+        long.but(TS_BYTES + EN_BYTES + 183 * SV_BYTES + 2, 1),
+    );
 }
 
 // A listing whose chunk has n bytes: one ensemble, and up to two more with two services each.
@@ -220,12 +235,12 @@ fn counts(kind: Kind) {
     show(b"1 service of 2", kind, two.but(10, 1));
     show(b"3 services of 2", kind, two.but(10, 3));
     show(b"255 services of 2", kind, two.but(10, 255));
-    show(b"no service of 1", kind, two.but(30, 0));
-    show(b"2 services of 1", kind, two.but(30, 2));
-    show(b"255 services of 1", kind, two.but(30, 255));
-    let fewer = two.but(10, 1).but(30, 2);
+    show(b"no service of 1", kind, two.but(32, 0));
+    show(b"2 services of 1", kind, two.but(32, 2));
+    show(b"255 services of 1", kind, two.but(32, 255));
+    let fewer = two.but(10, 1).but(32, 2);
     show(b"1 and 2 services of 2 and 1", kind, fewer);
-    let more = two.but(10, 3).but(30, 0);
+    let more = two.but(10, 3).but(32, 0);
     show(b"3 and 0 services of 2 and 1", kind, more);
 }
 
@@ -256,9 +271,9 @@ fn marks(kind: Kind) {
     marks_at(kind, 0);
     marks_at(kind, 5);
     marks_at(kind, 11);
-    marks_at(kind, 18);
-    marks_at(kind, 25);
-    marks_at(kind, 31);
+    marks_at(kind, 19);
+    marks_at(kind, 27);
+    marks_at(kind, 33);
 }
 
 // Every byte in its turn raised by so much: by 1, or by 255, which is 1 less.
@@ -290,15 +305,50 @@ fn field(name: &[u8], kind: Kind, at: usize, above: u8) {
 
 fn fields(kind: Kind) {
     field(b"flags", kind, 8, MOST_FLAGS + 1);
-    field(b"flags", kind, 28, MOST_FLAGS + 1);
+    field(b"flags", kind, 30, MOST_FLAGS + 1);
     field(b"channel version", kind, 9, MOST_CHANNEL + 1);
-    field(b"channel version", kind, 29, MOST_CHANNEL + 1);
-    field(b"multi", kind, 15, MOST_MULTI + 1);
-    field(b"multi", kind, 35, MOST_MULTI + 1);
-    field(b"status", kind, 16, MOST_STATUS + 1);
-    field(b"status", kind, 36, MOST_STATUS + 1);
-    field(b"SP", kind, 17, MOST_SP + 1);
-    field(b"SP", kind, 37, MOST_SP + 1);
+    field(b"channel version", kind, 31, MOST_CHANNEL + 1);
+    field(b"multi", kind, 16, MOST_MULTI + 1);
+    field(b"multi", kind, 38, MOST_MULTI + 1);
+    field(b"status", kind, 17, MOST_STATUS + 1);
+    field(b"status", kind, 39, MOST_STATUS + 1);
+    field(b"SP", kind, 18, MOST_SP + 1);
+    field(b"SP", kind, 40, MOST_SP + 1);
+}
+
+// A service's ensemble: its own, the other one, the first bytes of the services' ids, the least and the greatest.
+fn owners_at(kind: Kind, at: usize) {
+    field_as(b"ensemble", kind, at, 0x2B);
+    field_as(b"ensemble", kind, at, 0x9D);
+    field_as(b"ensemble", kind, at, 84);
+    field_as(b"ensemble", kind, at, 98);
+    field_as(b"ensemble", kind, at, 0);
+    field_as(b"ensemble", kind, at, 255);
+}
+
+// An ensemble's id by itself.
+fn ids_at(kind: Kind, at: usize) {
+    field_as(b"id", kind, at, 0x2B);
+    field_as(b"id", kind, at, 0x9D);
+    field_as(b"id", kind, at, 0);
+    field_as(b"id", kind, at, 255);
+}
+
+// The first ensemble's id, and with it that of its services.
+fn renamed(kind: Kind, id: u8) {
+    let made = two().but(7, id).but(13, id).but(21, id);
+    show_at(b"first renamed", id as usize, kind, made);
+}
+
+fn owners(kind: Kind) {
+    owners_at(kind, 13);
+    owners_at(kind, 21);
+    owners_at(kind, 35);
+    ids_at(kind, 7);
+    ids_at(kind, 29);
+    renamed(kind, 0x9D);
+    renamed(kind, 0);
+    renamed(kind, 255);
 }
 
 // Every cut, and the whole.
@@ -324,6 +374,7 @@ fn every(kind: Kind) {
     raised(kind, 1);
     raised(kind, 255);
     fields(kind);
+    owners(kind);
     cuts(kind);
 }
 

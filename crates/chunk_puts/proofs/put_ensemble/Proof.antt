@@ -3,9 +3,9 @@ use native.Mathlib.Omega.{arith}
 use mathlib.Core.Path.{sym, ap₂, _∙_}
 use native.Mathlib.Nat.{lt-trans}
 use lib.Dec.{lit<}
-use lib.ListN.{length-set}
+use lib.ListN.{drop, length-set}
 use denote.Ref.{now}
-use Rattle.meaning.specs.Said.{servicesFit}
+use Rattle.meaning.specs.Said.{servicesFit, idSaid}
 use Rattle.listing_checks.proofs.Checks.{count-at, inside-at}
 use Rattle.chunk_puts.proofs.Laws.{EnsemblePasses, ensemble-passes, ensemble-stored}
 use borrow.Author.Needs.{needs}
@@ -81,7 +81,7 @@ put-services-requires c κs =
     let p = c .before .before .before .before .before .before .before .pre .1 in
     let xs = now (c .before .before .before .before .before .before .before .args .listing) in
     let at = c .before .before .before .before .before .before .before .args .at in (
-      sym (ap₂ servicesFit (count-at xs at) (inside-at xs at)) ∙ p .0,
+      (idSaid (drop at xs), sym (ap₂ (servicesFit (idSaid (drop at xs))) (count-at xs at) (inside-at xs at)) ∙ p .0),
       simp length-set (omega (arith, p .1, count-at xs at)),
     )
 

@@ -9,7 +9,7 @@ use Rattle.chunk_puts.proofs.put_service.Tie as tie
 
 -- what the check on the record tells
 passes : (c : tie.Start) → ServicePasses (now (c .args .listing)) (c .args .at)
-passes c = service-passes (now (c .args .listing)) (c .args .at) (c .pre .0)
+passes c = service-passes (now (c .args .listing)) (c .args .at) (c .pre .0 .0) (c .pre .0 .1)
 
 add-high : tie.Need-add-high
 add-high c = omega (arith, passes c)

@@ -2,7 +2,7 @@
 -- makes the whole that was asked for. The measure is the number of services left. Assumes nothing.
 use borrow.Author.Needs.{needs}
 use native.Mathlib.Omega.{arith}
-use Prim.Native.Nat.{_+_, _*_, _≤_}
+use Prim.Native.Nat.{ℕ, _+_, _*_, _≤_}
 use mathlib.Core.Path.{_≡_, refl, sym, ap, _∙_}
 use mathlib.Core.Bool.{true}
 use lib.ListN.{length, drop}
@@ -17,7 +17,7 @@ use Rattle.chunk_puts.proofs.put_services.Tie as tie
 
 abbrev Inv-loop : tie.InvT-loop
 Inv-loop listing from count chunk₀ start at₀ to₀ left₀ chunk at to left =
-    (servicesFit left (drop at listing) ≡ true)
+    ((e : ℕ) × (servicesFit e left (drop at listing) ≡ true))
     × (to + serviceBytes * left ≤ length chunk)
     × (length chunk ≡ length chunk₀)
     × (sets chunk to (servicesLaid left (drop at listing)) ≡ sets chunk₀ start (servicesLaid count (drop from listing)))
@@ -31,13 +31,17 @@ loop-holds c = (c .before .before .pre .0, c .before .before .pre .1, refl, refl
 put-service-requires : tie.Need-put-service-requires Inv-loop μ-loop
 put-service-requires c κs =
     let l = c .before .before .loop in
-    (services-some (now (c .before .before .before .before .before .args .listing)) (l .at) (l .left) (c .before .loop-test .taken) (l .inv .0) .0, omega (arith, c .before .loop-test .taken, l .inv .1))
+    let e = l .inv .0 .0 in (
+      (e, services-some (now (c .before .before .before .before .before .args .listing)) (l .at) e (l .left) (c .before .loop-test .taken) (l .inv .0 .1) .0),
+      omega (arith, c .before .loop-test .taken, l .inv .1),
+    )
 
 add-at : tie.Need-add-at Inv-loop μ-loop
 add-at c =
     let xs = now (c .before .before .before .before .before .before .before .before .args .listing) in
     let l = c .before .before .before .before .before .loop in
-    omega (arith, service-passes xs (l .at) (services-some xs (l .at) (l .left) (c .before .before .before .before .loop-test .taken) (l .inv .0) .0) .room)
+    let e = l .inv .0 .0 in
+    omega (arith, service-passes xs (l .at) e (services-some xs (l .at) e (l .left) (c .before .before .before .before .loop-test .taken) (l .inv .0 .1) .0) .room)
 
 add-to : tie.Need-add-to Inv-loop μ-loop
 add-to c = omega arith
@@ -53,7 +57,7 @@ loop-again c =
     let xs = now (c .before .before .before .before .before .before .before .before .args .listing) in
     let l = c .before .before .before .before .before .loop in
     let some = c .before .before .before .before .loop-test .taken in (
-      services-some xs (l .at) (l .left) some (l .inv .0) .1,
+      (l .inv .0 .0, services-some xs (l .at) (l .inv .0 .0) (l .left) some (l .inv .0 .1) .1),
       omega arith,
       omega arith,
       services-next xs (l .chunk) _ (l .at) (l .to) (l .left) some (c .before .before .put-service .ensures) ∙ l .inv .3,

@@ -1,5 +1,5 @@
--- `listing_checks::ensembles_length` meets its contract. The loop's invariant: the length so far, with the ensembles left from here on, makes the length
--- asked for; it is no greater than the place in the listing, the header aside. The measure is the number of ensembles left. Assumes nothing.
+-- `listing_checks::ensembles_length` meets its contract. The loop's invariant: the place never goes back; the length so far, with the ensembles left
+-- from here on, makes the length asked for; it is no greater than the place in the listing, the header aside. The measure is the number of ensembles left. Assumes nothing.
 use native.Mathlib.Omega.{arith}
 use Prim.Native.Nat.{_+_, _≤_, _<_}
 use mathlib.Core.Path.{_≡_, refl, sym, ap₂, _∙_}
@@ -17,7 +17,8 @@ use Rattle.listing_checks.proofs.ensembles_length.Tie as tie
 
 abbrev Inv-loop : tie.InvT-loop
 Inv-loop listing from count at₀ left₀ size₀ at left size =
-    (at ≤ length listing)
+    (from ≤ at)
+    × (at ≤ length listing)
     × (size ≤ chunkHeaderBytes + at)
     × (lengthWith size left (drop at listing) ≡ lengthWith chunkHeaderBytes count (drop from listing))
 
@@ -31,14 +32,14 @@ fit c = sym (c .before .ensemble-fits .ensures) ∙ not-false _ (c .if1 .left)
 there : (c : tie.Else1 Inv-loop μ-loop) → c .before .before .before .loop .at + enBytes ≤ length (now (c .before .before .before .before .before .args .listing))
 there c = en-there (now (c .before .before .before .before .before .args .listing)) (c .before .before .before .loop .at) (fit c)
 
-own : (c : tie.Else2 Inv-loop μ-loop) → let xs = now (c .before .before .before .before .before .before .before .before .args .listing) in let at = c .before .before .before .before .before .before .loop .at in servicesFit (getD xs (at + 5) 0) (drop (at + enBytes) xs) ≡ true
+own : (c : tie.Else2 Inv-loop μ-loop) → let xs = now (c .before .before .before .before .before .before .before .before .before .args .listing) in let at = c .before .before .before .before .before .before .before .loop .at in servicesFit (getD xs (at + 2) 0) (getD xs (at + 5) 0) (drop (at + enBytes) xs) ≡ true
 own c = sym (c .before .services-fit .ensures) ∙ not-false _ (c .if2 .left)
 
-small : (c : tie.Else2 Inv-loop μ-loop) → getD (now (c .before .before .before .before .before .before .before .before .args .listing)) (c .before .before .before .before .before .before .loop .at + 5) 0 < 256
-small c = omega (arith, c .before .before .shared-slice-known2 .given (c .before .before .before .before .before .before .loop .at + 5))
+small : (c : tie.Else2 Inv-loop μ-loop) → getD (now (c .before .before .before .before .before .before .before .before .before .args .listing)) (c .before .before .before .before .before .before .before .loop .at + 5) 0 < 256
+small c = omega (arith, c .before .before .shared-slice-known3 .given (c .before .before .before .before .before .before .before .loop .at + 5))
 
 loop-holds : tie.Need-loop-holds Inv-loop μ-loop
-loop-holds c = (c .before .pre, omega arith, refl)
+loop-holds c = (omega arith, c .before .pre, omega arith, refl)
 
 ensemble-fits-requires : tie.Need-ensemble-fits-requires Inv-loop μ-loop
 ensemble-fits-requires c κs = search needs
@@ -50,29 +51,35 @@ returns c =
     let unfit = sym (c .before .ensemble-fits .ensures) ∙ not-true _ (c .if1 .taken) in
     length-unfit (l .length) (l .left) (drop (l .at) (now (a .listing)))
     (ensembles-tests (now (a .listing)) (l .at) (l .left) (c .before .before .loop-test .taken) ∙ ap₂ _&&_ unfit refl)
-    ∙ l .inv .2
+    ∙ l .inv .3
+
+add-id : tie.Need-add-id Inv-loop μ-loop
+add-id c = omega arith
+
+shared-slice-read-id : tie.Need-shared-slice-read-id Inv-loop μ-loop
+shared-slice-read-id c = omega (arith, there (c .before))
 
 add-said : tie.Need-add-said Inv-loop μ-loop
 add-said c = omega arith
 
 shared-slice-read-said : tie.Need-shared-slice-read-said Inv-loop μ-loop
-shared-slice-read-said c = omega (arith, there (c .before))
+shared-slice-read-said c = omega (arith, there (c .before .before))
 
 add-inside : tie.Need-add-inside Inv-loop μ-loop
 add-inside c = omega arith
 
 services-fit-requires : tie.Need-services-fit-requires Inv-loop μ-loop
-services-fit-requires c κs = there (c .before)
+services-fit-requires c κs = there (c .before .before)
 
 returns-2 : tie.Need-returns-2 Inv-loop μ-loop
 returns-2 c =
-    let a = c .before .before .before .before .before .before .before .before .args in
-    let l = c .before .before .before .before .before .before .loop in
+    let a = c .before .before .before .before .before .before .before .before .before .args in
+    let l = c .before .before .before .before .before .before .before .loop in
     let unfit = sym (c .before .services-fit .ensures) ∙ not-true _ (c .if2 .taken) in
     length-unfit (l .length) (l .left) (drop (l .at) (now (a .listing)))
-    (ensembles-tests (now (a .listing)) (l .at) (l .left) (c .before .before .before .before .before .loop-test .taken)
-    ∙ ap₂ _&&_ (fit (c .before .before .before)) (ap₂ _&&_ unfit refl))
-    ∙ l .inv .2
+    (ensembles-tests (now (a .listing)) (l .at) (l .left) (c .before .before .before .before .before .before .loop-test .taken)
+    ∙ ap₂ _&&_ (fit (c .before .before .before .before)) (ap₂ _&&_ unfit refl))
+    ∙ l .inv .3
 
 cast-services : tie.Need-cast-services Inv-loop μ-loop
 cast-services c = omega (arith, small c)
@@ -100,25 +107,26 @@ loop-less c = omega arith
 
 loop-again : tie.Need-loop-again Inv-loop μ-loop
 loop-again c =
-    let a = c .before .before .before .before .before .before .before .before .args in
-    let l = c .before .before .before .before .before .before .loop in (
-      services-there (now (a .listing)) (l .at + enBytes) (getD (now (a .listing)) (l .at + 5) 0) (there (c .before .before .before)) (own c),
+    let a = c .before .before .before .before .before .before .before .before .before .args in
+    let l = c .before .before .before .before .before .before .before .loop in (
       omega arith,
-      length-next (now (a .listing)) (l .at) (l .left) (l .length) (c .before .before .before .before .before .loop-test .taken) (fit (c .before .before .before)) (own c)
-          ∙ l .inv .2,
+      services-there (now (a .listing)) (l .at + enBytes) (getD (now (a .listing)) (l .at + 2) 0) (getD (now (a .listing)) (l .at + 5) 0) (there (c .before .before .before .before)) (own c),
+      omega arith,
+      length-next (now (a .listing)) (l .at) (l .left) (l .length) (c .before .before .before .before .before .before .loop-test .taken) (fit (c .before .before .before .before)) (own c)
+          ∙ l .inv .3,
     )
 
 returns-3 : tie.Need-returns-3 Inv-loop μ-loop
 returns-3 c =
     let a = c .before .before .before .before .args in
     let l = c .before .before .loop in
-    length-more (now (a .listing)) (l .at) (l .left) (l .length) (c .before .loop-test .left) (l .inv .0) (c .if3 .taken) ∙ l .inv .2
+    length-more (now (a .listing)) (l .at) (l .left) (l .length) (c .before .loop-test .left) (l .inv .1) (c .if3 .taken) ∙ l .inv .3
 
 returns-4 : tie.Need-returns-4 Inv-loop μ-loop
 returns-4 c =
     let a = c .before .before .before .before .args in
     let l = c .before .before .loop in
-    length-ends (now (a .listing)) (l .at) (l .left) (l .length) (c .before .loop-test .left) (l .inv .0) (c .if3 .left) ∙ l .inv .2
+    length-ends (now (a .listing)) (l .at) (l .left) (l .length) (c .before .loop-test .left) (l .inv .1) (c .if3 .left) ∙ l .inv .3
 
 pub ensembles-length-spec : {M : Type 1} → statement M
 ensembles-length-spec =
@@ -129,6 +137,8 @@ ensembles-length-spec =
     loop-holds
     ensemble-fits-requires
     returns
+    add-id
+    shared-slice-read-id
     add-said
     shared-slice-read-said
     add-inside

@@ -14,11 +14,11 @@ use Rattle.listing_checks.proofs.services_fit.Statement.{statement}
 use Rattle.listing_checks.proofs.services_fit.Tie as tie
 
 abbrev Inv-loop : tie.InvT-loop
-Inv-loop listing from count at₀ left₀ at left =
-    (at + svBytes * left ≤ length listing) × (servicesFit left (drop at listing) ≡ servicesFit count (drop from listing))
+Inv-loop listing from ensemble count at₀ left₀ at left =
+    (at + svBytes * left ≤ length listing) × (servicesFit ensemble left (drop at listing) ≡ servicesFit ensemble count (drop from listing))
 
 abbrev μ-loop : tie.MeasureT-loop
-μ-loop listing from count at₀ left₀ at left = left
+μ-loop listing from ensemble count at₀ left₀ at left = left
 
 sub-if1 : tie.Need-sub-if1 Inv-loop μ-loop
 sub-if1 c = omega arith
@@ -27,7 +27,7 @@ mul-if1 : tie.Need-mul-if1 Inv-loop μ-loop
 mul-if1 c = omega arith
 
 returns : tie.Need-returns Inv-loop μ-loop
-returns c = let a = c .before .before .args in sym (services-short (now (a .listing)) (a .from) (a .count) (omega arith))
+returns c = let a = c .before .before .args in sym (services-short (now (a .listing)) (a .from) (a .ensemble) (a .count) (omega arith))
 
 loop-holds : tie.Need-loop-holds Inv-loop μ-loop
 loop-holds c = (omega arith, refl)
@@ -41,7 +41,7 @@ returns-2 c =
     let l = c .before .before .before .loop in
     let unfit = sym (c .before .service-fits .ensures) ∙ not-true _ (c .if2 .taken) in
     sym
-    (services-tests (now (a .listing)) (l .at) (l .left) (c .before .before .loop-test .taken)
+    (services-tests (now (a .listing)) (l .at) (a .ensemble) (l .left) (c .before .before .loop-test .taken)
     ∙ ap₂ _&&_ unfit refl)
     ∙ l .inv .1
 
@@ -61,7 +61,7 @@ loop-again c =
     let fit = sym (c .before .service-fits .ensures) ∙ not-false _ (c .if2 .left) in (
       omega arith,
       sym
-          (services-tests (now (a .listing)) (l .at) (l .left) (c .before .before .loop-test .taken)
+          (services-tests (now (a .listing)) (l .at) (a .ensemble) (l .left) (c .before .before .loop-test .taken)
           ∙ ap₂ _&&_ fit refl)
           ∙ l .inv .1,
     )
@@ -70,7 +70,7 @@ returns-3 : tie.Need-returns-3 Inv-loop μ-loop
 returns-3 c =
     let a = c .before .before .before .before .args in
     let l = c .before .loop in
-    sym (services-none (now (a .listing)) (l .at) (l .left) (c .loop-test .left)) ∙ l .inv .1
+    sym (services-none (now (a .listing)) (l .at) (a .ensemble) (l .left) (c .loop-test .left)) ∙ l .inv .1
 
 pub services-fit-spec : {M : Type 1} → statement M
 services-fit-spec =

@@ -13,6 +13,9 @@ use borrow.Author.Needs.{needs}
 use Rattle.listing_puts.proofs.write_known.Statement.{statement}
 use Rattle.listing_puts.proofs.write_known.Tie as tie
 
+shared-slice-read-id : tie.Need-shared-slice-read-id
+shared-slice-read-id c = search needs
+
 add-third : tie.Need-add-third
 add-third c = search needs
 
@@ -36,9 +39,6 @@ add-out c = search needs
 
 slice-write-out-2 : tie.Need-slice-write-out-2
 slice-write-out-2 c = simp length-set (omega arith)
-
-shared-slice-read-out : tie.Need-shared-slice-read-out
-shared-slice-read-out c = search needs
 
 add-out-2 : tie.Need-add-out-2
 add-out-2 c = search needs
@@ -97,7 +97,7 @@ add-result-2 : tie.Need-add-result-2
 add-result-2 c = omega (arith, counted c)
 
 same-length : tie.Need-same-length
-same-length c = c .before .before .write-services .kept .1 .1 .1 .1 .0 ∙ simp length-set
+same-length c = c .before .before .write-services .kept .1 .1 .1 .1 .1 .0 ∙ simp length-set
 
 returns : tie.Need-returns
 returns c =
@@ -109,6 +109,7 @@ pub write-known-spec : {M : Type 1} → statement M
 write-known-spec =
     tie.close
     (tie.spec
+    shared-slice-read-id
     add-third
     shared-slice-read-third
     add-services
@@ -117,7 +118,6 @@ write-known-spec =
     slice-write-out
     add-out
     slice-write-out-2
-    shared-slice-read-out
     add-out-2
     slice-write-out-3
     add-out-3

@@ -1,4 +1,4 @@
--- `listing_puts::write_service` meets its contract: its seven stores are the service's record. Assumes nothing.
+-- `listing_puts::write_service` meets its contract: its eight stores are the service's record. Assumes nothing.
 use native.Mathlib.Omega.{arith}
 use lib.ListN.{length-set}
 use denote.Ref.{now}
@@ -7,17 +7,14 @@ use borrow.Author.Needs.{needs}
 use Rattle.listing_puts.proofs.write_service.Statement.{statement}
 use Rattle.listing_puts.proofs.write_service.Tie as tie
 
-shared-slice-read-word-of : tie.Need-shared-slice-read-word-of
-shared-slice-read-word-of c = search needs
+shared-slice-read-high : tie.Need-shared-slice-read-high
+shared-slice-read-high c = search needs
 
-add-word-of : tie.Need-add-word-of
-add-word-of c = search needs
+add-low : tie.Need-add-low
+add-low c = search needs
 
-shared-slice-read-word-of-2 : tie.Need-shared-slice-read-word-of-2
-shared-slice-read-word-of-2 c = search needs
-
-word-of-requires : tie.Need-word-of-requires
-word-of-requires c κs = search needs
+shared-slice-read-low : tie.Need-shared-slice-read-low
+shared-slice-read-low c = search needs
 
 add-third : tie.Need-add-third
 add-third c = search needs
@@ -34,17 +31,11 @@ add-out c = search needs
 slice-write-out-2 : tie.Need-slice-write-out-2
 slice-write-out-2 c = simp length-set (omega arith)
 
-high-of-requires : tie.Need-high-of-requires
-high-of-requires c κs = search needs
-
 add-out-2 : tie.Need-add-out-2
 add-out-2 c = search needs
 
 slice-write-out-3 : tie.Need-slice-write-out-3
 slice-write-out-3 c = simp length-set (omega arith)
-
-low-of-requires : tie.Need-low-of-requires
-low-of-requires c κs = search needs
 
 add-out-3 : tie.Need-add-out-3
 add-out-3 c = search needs
@@ -70,31 +61,34 @@ add-out-6 c = search needs
 slice-write-out-7 : tie.Need-slice-write-out-7
 slice-write-out-7 c = simp length-set (omega arith)
 
+add-out-7 : tie.Need-add-out-7
+add-out-7 c = search needs
+
+slice-write-out-8 : tie.Need-slice-write-out-8
+slice-write-out-8 c = simp length-set (omega arith)
+
 same-length : tie.Need-same-length
 same-length c = simp length-set
 
 returns : tie.Need-returns
 returns c =
-    let a = c .before .before .before .before .before .before .before .before .args in
-    service-stored (now (a .chunk)) (now (a .out)) (a .at) (a .to) _ _ _ (c .before .before .before .word-of .ensures) (c .before .high-of .ensures) (c .low-of .ensures)
+    let a = c .before .before .before .args in
+    service-stored (now (a .chunk)) (now (a .out)) (a .at) (a .ensemble) (a .to) (c .shared-slice-known3 .given _ .fits)
 
 pub write-service-spec : {M : Type 1} → statement M
 write-service-spec =
     tie.close
     (tie.spec
-    shared-slice-read-word-of
-    add-word-of
-    shared-slice-read-word-of-2
-    word-of-requires
+    shared-slice-read-high
+    add-low
+    shared-slice-read-low
     add-third
     shared-slice-read-third
     slice-write-out
     add-out
     slice-write-out-2
-    high-of-requires
     add-out-2
     slice-write-out-3
-    low-of-requires
     add-out-3
     slice-write-out-4
     add-out-4
@@ -103,5 +97,7 @@ write-service-spec =
     slice-write-out-6
     add-out-6
     slice-write-out-7
+    add-out-7
+    slice-write-out-8
     same-length
     returns)

@@ -16,14 +16,14 @@ use Rattle.listing_puts.proofs.write_services.Statement.{statement}
 use Rattle.listing_puts.proofs.write_services.Tie as tie
 
 abbrev Inv-loop : tie.InvT-loop
-Inv-loop chunk from s count out₀ start at₀ to₀ left₀ out at to left =
+Inv-loop chunk from s ensemble count out₀ start at₀ to₀ left₀ out at to left =
     (at + left * (serviceBytes + s) ≤ length chunk)
     × (to + svBytes * left ≤ length out)
     × (length out ≡ length out₀)
-    × (sets out to (flatMap svRecord (servicesAt s left (drop at chunk))) ≡ sets out₀ start (flatMap svRecord (servicesAt s count (drop from chunk))))
+    × (sets out to (flatMap (svRecord ensemble) (servicesAt s left (drop at chunk))) ≡ sets out₀ start (flatMap (svRecord ensemble) (servicesAt s count (drop from chunk))))
 
 abbrev μ-loop : tie.MeasureT-loop
-μ-loop chunk from s count out₀ start at₀ to₀ left₀ out at to left = left
+μ-loop chunk from s ensemble count out₀ start at₀ to₀ left₀ out at to left = left
 
 loop-holds : tie.Need-loop-holds Inv-loop μ-loop
 loop-holds c = (c .before .before .pre .0, c .before .before .pre .1, refl, refl)
@@ -54,7 +54,7 @@ loop-again c =
       row-rest (l .at) (serviceBytes + a .s) (length (now (a .chunk))) (l .left) some (l .inv .0),
       omega arith,
       omega arith,
-      services-next (now (a .chunk)) (l .out) _ (l .at) (l .to) (a .s) (l .left) some (c .before .before .write-service .ensures) ∙ l .inv .3,
+      services-next (now (a .chunk)) (l .out) _ (l .at) (a .ensemble) (l .to) (a .s) (l .left) some (c .before .before .write-service .ensures) ∙ l .inv .3,
     )
 
 same-length : tie.Need-same-length Inv-loop μ-loop
@@ -63,7 +63,7 @@ same-length c = search needs
 returns : tie.Need-returns Inv-loop μ-loop
 returns c =
     sym
-    (services-none (now (c .before .before .before .before .args .chunk)) (c .before .loop .out) (c .before .loop .at) (c .before .loop .to) (c .before .before .before .before .args .s) (c .before .loop .left) (c .loop-test .left))
+    (services-none (now (c .before .before .before .before .args .chunk)) (c .before .loop .out) (c .before .loop .at) (c .before .before .before .before .args .ensemble) (c .before .loop .to) (c .before .before .before .before .args .s) (c .before .loop .left) (c .loop-test .left))
     ∙ c .before .loop .inv .3
 
 pub write-services-spec : {M : Type 1} → statement M
