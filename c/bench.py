@@ -10,20 +10,23 @@ here = os.path.dirname(os.path.dirname(os.path.abspath(__file__)))
 rounds, run = int(sys.argv[1]), sys.argv[2:]
 made = here + "/target/c/"
 os.sched_setaffinity(0, {min(os.sched_getaffinity(0))})
-makers = {"log": ("makelog", "segments"), "unwrap": ("maketunnel", "packets"), "wrap": ("makewrap", "packets"), "guide": ("makeguide", "sections")}
+makers = {"log": ("makelog", "segments"), "unwrap": ("maketunnel", "packets"), "wrap": ("makewrap", "packets"), "guide": ("makeguide", "sections"),
+          "explain": ("makeexplain", "records")}
 sides = {name: {"ours": made + name, "plain": made + "plain" + name} for name in makers}
 silent = {"stdout": subprocess.DEVNULL, "stderr": subprocess.DEVNULL}
 # of each program, files of what and of how many, with its words; and what it is given one file and ten of
 files = {"log": (("mixed", 2000000), ("short", 1000000), ("longest", 400000), ("repeats", 2000000)),
          "unwrap": (("small", 100000), ("mixed", 100000), ("large", 100000), ("split", 500000)),
          "wrap": (("small", 1000000, "1400"), ("mixed", 150000, "1400"), ("large", 90000, "1400"), ("mixed", 150000, "200")),
-         "guide": (("small", 1500000), ("mixed", 400000), ("large", 30000))}
-lengths = {"log": 2000000, "unwrap": 60000, "wrap": 100000, "guide": 250000}
+         "guide": (("small", 1500000), ("mixed", 400000), ("large", 30000)),
+         "explain": (("log", 1500000), ("faults", 1000000), ("chunks", 500000))}
+lengths = {"log": 2000000, "unwrap": 60000, "wrap": 100000, "guide": 250000, "explain": 500000}
 # calls of a case in one run
 cases = {"read-short": 3000000, "read-longest": 400000, "read-mixed": 3000000, "write-short": 3000000, "write-longest": 400000, "write-mixed": 3000000,
          "unwrap-small": 1000000, "unwrap-mixed": 1000000, "unwrap-large": 1000000, "unwrap-split": 1000000,
          "wrap-small": 1000000, "wrap-mixed": 1000000, "wrap-large": 1000000, "wrap-split": 1000000,
-         "guide-small": 3000000, "guide-mixed": 2000000, "guide-large": 400000, "guide-names": 40000}
+         "guide-small": 3000000, "guide-mixed": 2000000, "guide-large": 400000, "guide-names": 40000,
+         "explain-chunk": 3000000, "explain-segment": 10000000, "explain-gathered": 6000000}
 told = time.monotonic()
 
 
@@ -138,7 +141,7 @@ def interrupted(number, _):
 for number in (signal.SIGHUP, signal.SIGINT, signal.SIGTERM):
     if signal.getsignal(number) is not signal.SIG_IGN:
         signal.signal(number, interrupted)
-seconds = 28 + 9 * rounds
+seconds = 32 + 10 * rounds
 long = f"{seconds} seconds" if seconds < 100 else f"{(seconds + 30) // 60} minutes"
 count = sum(map(len, files.values())) + len(cases)
 print(f"bench: {count} cases, {rounds} pairs each, then memory: about {long} on x86-64, longer under an emulator", file=sys.stderr, flush=True)

@@ -1,4 +1,4 @@
-/* Nanoseconds for one call of the reader, the writer, the tunnel's reader, its writer or the guide's reader, or for all names of a section of the guide.
+/* Nanoseconds for one call of the reader, the writer, the tunnel's reader, its writer, the guide's reader or an explanation, or for all names of a section of the guide.
    bench_calls ours|plain CASE ROUNDS
    Compiled with -DOURS for the one, without for the other; all else is the same. */
 #define _POSIX_C_SOURCE 199309L
@@ -21,8 +21,12 @@ enum {
     ITEMS = STREAM / (SECTION_LOOPS + 2)
 };
 
-/* The length of the listing, the number of segments, or one more than the bytes stored or written or the sections missing; 0 where refused. And where in its section
-   a name ends; 0 where there is none. */
+/* Beside which segments are explained: all places are held. */
+static uint8_t gathered[MAKE_CHUNK];
+enum { HELD = 0xFFFF, LAST = MAKE_PLACES - 1 };
+
+/* The length of the listing, the number of segments, or one more than the bytes stored or written, the sections missing or the offset of a field; 0 where refused. And
+   where in its section a name ends; 0 where there is none. */
 #ifdef OURS
 #include "lukasembo.h"
 #define WHO "ours"
@@ -80,7 +84,26 @@ static inline size_t name_end(const uint8_t *section, size_t n, size_t which)
 
     return name.text != NULL ? (size_t)(name.text - section) + name.length : 0;
 }
+
+static inline uint64_t explain_chunk_one(const uint8_t *chunk, size_t n, uint8_t *output)
+{
+    (void)output;
+    return 1 + lukasembo_bit(lukasembo_explain_chunk(chunk, n).answer);
+}
+
+static inline uint64_t explain_segment_one(const uint8_t *segment, size_t n, uint8_t *output)
+{
+    (void)output;
+    return 1 + lukasembo_bit(lukasembo_explain_segment(segment, n).answer);
+}
+
+static inline uint64_t explain_gathered_one(const uint8_t *segment, size_t n, uint8_t *output)
+{
+    (void)output;
+    return 1 + lukasembo_bit(lukasembo_explain_gathered(segment, n, HELD | LAST << 16, gathered, sizeof gathered).answer);
+}
 #else
+#include "explain.h"
 #include "guide.h"
 #include "plain.h"
 #include "tunnel.h"
@@ -138,6 +161,26 @@ static inline size_t name_end(const uint8_t *section, size_t n, size_t which)
     const struct plain_name name = plain_guide_name(section, n, which);
 
     return (size_t)(name.text - section) + name.length;
+}
+
+static inline uint64_t explain_chunk_one(const uint8_t *chunk, size_t n, uint8_t *output)
+{
+    (void)output;
+    return 1 + plain_explain_chunk(chunk, n).bit;
+}
+
+static inline uint64_t explain_segment_one(const uint8_t *segment, size_t n, uint8_t *output)
+{
+    (void)output;
+    return 1 + plain_explain_segment(segment, n).bit;
+}
+
+static inline uint64_t explain_gathered_one(const uint8_t *segment, size_t n, uint8_t *output)
+{
+    const struct plain_gathered slot = {HELD, LAST, 0, gathered, sizeof gathered};
+
+    (void)output;
+    return 1 + plain_explain_gathered(segment, n, &slot).bit;
 }
 #endif
 
@@ -278,6 +321,43 @@ static int make_items(const char *name)
     return 1;
 }
 
+/* The reader's chunks, every other one cut. */
+static int make_cut(void)
+{
+    struct rng rng = {2};
+    size_t i;
+
+    make_items("read-mixed");
+    for (i = 0; i < count; i += 2)
+        items[i].n = rng_below(&rng, (unsigned)items[i].n);
+    return 1;
+}
+
+/* The pieces of a long chunk, which are gathered, again and again: one in four with a byte changed, one in four with another header. */
+static int make_pieces(void)
+{
+    const struct make_shape shape = {0, 0, 0, 0, 1, 1};
+    static struct make_list list;
+    static struct made made;
+    static uint8_t segment[MAKE_PLACES][MAKE_SEGMENT];
+    struct rng rng = {1};
+    unsigned i;
+
+    make_counts(&rng, &list, 1, 183);
+    make_chunk(&rng, &list, &shape, &made);
+    make_segments(&rng, made.bytes, made.n, 1, 1, segment);
+    for (i = 0; i < MAKE_PLACES; i++)
+        memcpy(gathered + i * MAKE_PAYLOAD, segment[i] + MAKE_SEGMENT - MAKE_PAYLOAD, MAKE_PAYLOAD);
+    for (i = 0; i < LISTS; i++) {
+        add(segment[i % MAKE_PLACES], MAKE_SEGMENT, 1);
+        if (rng_once_in(&rng, 4))
+            store[i * LISTING + 2 + rng_below(&rng, MAKE_PAYLOAD)] ^= 1;
+        else if (rng_once_in(&rng, 3))
+            rng_fill(&rng, store + i * LISTING, 2);
+    }
+    return 1;
+}
+
 static uint64_t run_reader(unsigned long rounds)
 {
     uint64_t sum = 0;
@@ -312,7 +392,7 @@ static uint64_t run_writer(unsigned long rounds)
     return sum;
 }
 
-/* Of the tunnel and the guide; each of their calls is put in. */
+/* Of the tunnel, the guide and the explanations; each of their calls is put in. */
 static inline __attribute__((always_inline)) uint64_t run_each(unsigned long rounds, uint64_t (*one)(const uint8_t *input, size_t n, uint8_t *output))
 {
     uint64_t sum = 0;
@@ -330,8 +410,8 @@ static inline __attribute__((always_inline)) uint64_t run_each(unsigned long rou
     return sum;
 }
 
-enum sort { READ, WRITE, UNWRAP, WRAP, NAMES, GUIDE, SORTS };
-static const char *const sort_name[SORTS] = {"read-", "write-", "unwrap-", "wrap-", "guide-names", "guide-"};
+enum sort { READ, WRITE, UNWRAP, WRAP, NAMES, GUIDE, CHUNK, SEGMENT, GATHERED, SORTS };
+static const char *const sort_name[SORTS] = {"read-", "write-", "unwrap-", "wrap-", "guide-names", "guide-", "explain-chunk", "explain-segment", "explain-gathered"};
 
 /* Which call a case is of, or SORTS. */
 static enum sort sort_of(const char *name)
@@ -345,22 +425,26 @@ static enum sort sort_of(const char *name)
 
 static int make_case(enum sort sort, const char *name)
 {
+    const char *what = sort < SORTS ? name + strlen(sort_name[sort]) : name;
+
     switch (sort) {
     case READ: case WRITE: return make_items(name);
-    case UNWRAP: return make_outers(name + strlen(sort_name[UNWRAP]));
-    case WRAP: return make_inners(name + strlen(sort_name[WRAP]));
-    case NAMES: return name[strlen(sort_name[NAMES])] == '\0' && make_sections("mixed");
-    case GUIDE: return make_sections(name + strlen(sort_name[GUIDE]));
+    case UNWRAP: return make_outers(what);
+    case WRAP: return make_inners(what);
+    case NAMES: return *what == '\0' && make_sections("mixed");
+    case GUIDE: return make_sections(what);
+    case CHUNK: return *what == '\0' && make_cut();
+    case SEGMENT: case GATHERED: return *what == '\0' && make_pieces();
     default: return 0;
     }
 }
 
-/* Whether each input is taken. */
+/* Whether each input is taken; what is explained always is. */
 static int all_taken(enum sort sort)
 {
     size_t i;
 
-    for (i = 0; i < count; i++) {
+    for (i = 0; i < count && sort < CHUNK; i++) {
         const struct item *item = &items[i];
 
         if ((sort == READ ? read_one(item->bytes, item->n, buffer) : sort == WRITE ? write_one(item->bytes, item->n, item->kind, buffer)
@@ -379,7 +463,10 @@ static uint64_t run(enum sort sort, unsigned long rounds)
     case UNWRAP: return run_each(rounds, unwrap_one);
     case WRAP: return run_each(rounds, wrap_one);
     case NAMES: return run_each(rounds, names_one);
-    default: return run_each(rounds, guide_one);
+    case GUIDE: return run_each(rounds, guide_one);
+    case CHUNK: return run_each(rounds, explain_chunk_one);
+    case SEGMENT: return run_each(rounds, explain_segment_one);
+    default: return run_each(rounds, explain_gathered_one);
     }
 }
 
@@ -394,7 +481,7 @@ int main(int argc, char **argv)
     if (rounds == 0 || strcmp(argv[1], WHO) != 0 || !make_case(sort, argv[2])) {
         fprintf(stderr, "usage: bench_calls " WHO " read-short|read-longest|read-mixed|write-short|write-longest|write-mixed"
                         "|unwrap-small|unwrap-mixed|unwrap-large|unwrap-split|wrap-small|wrap-mixed|wrap-large|wrap-split"
-                        "|guide-small|guide-mixed|guide-large|guide-names ROUNDS\n");
+                        "|guide-small|guide-mixed|guide-large|guide-names|explain-chunk|explain-segment|explain-gathered ROUNDS\n");
         return 2;
     }
     if (!all_taken(sort)) {

@@ -18,6 +18,12 @@ struct call now;
 struct result result[SIDES];
 uint64_t phase_end;
 
+/* How long a state is, or its memory, as a side has it. */
+static size_t state_bytes(int side)
+{
+    return about.bytes == 0 ? (size_t)now.other : side == OURS ? about.bytes : about.plain_bytes;
+}
+
 /* ---- The report ---- */
 
 static void print_results(void)
@@ -39,7 +45,7 @@ void print_call(void)
     if (has_state()) {
         print_numbers("state", now.numbers);
         printf("%-6s ", about.memory);
-        print_hex(now.memory, about.bytes);
+        print_hex(now.memory, state_bytes(OURS));
     }
     printf("input  ");
     print_hex(now.input, now.n);
@@ -58,7 +64,7 @@ void put_call(FILE *f)
     put_number(f, now.other);
     put_number(f, now.numbers);
     put_number(f, now.n);
-    fwrite(now.memory, 1, about.bytes, f);
+    fwrite(now.memory, 1, state_bytes(OURS), f);
     fwrite(now.input, 1, now.n, f);
 }
 
@@ -93,9 +99,9 @@ static void lay_all(void)
         lent_fill(&lent[side][BUFFER], now.spot[BUFFER], now.pattern, now.room);
     if (about.words)
         spot.shift &= AT_WORDS;
-    lent_lay(&lent[OURS][STATE], spot, now.memory, about.bytes);
+    lent_lay(&lent[OURS][STATE], spot, now.memory, state_bytes(OURS));
     spot.shift &= AT_WORDS;
-    lent_lay(&lent[PLAIN][STATE], spot, plain_state(), about.plain_bytes);
+    lent_lay(&lent[PLAIN][STATE], spot, plain_state(), state_bytes(PLAIN));
 }
 
 int flip(uint8_t *byte)
@@ -113,14 +119,14 @@ int add_one(uint64_t *number, unsigned bit)
 static struct fault compare_memories(void)
 {
     const struct lent *out = lent[OURS] + BUFFER;
-    const size_t written = written_by(result[OURS].answer), i = same(result[OURS].memory, result[PLAIN].memory, about.bytes);
+    const size_t written = written_by(result[OURS].answer), n = state_bytes(OURS), i = same(result[OURS].memory, result[PLAIN].memory, n);
     struct fault fault = {NULL, BUFFER, NOWHERE};
 
-    if (i < about.bytes) {
+    if (i < n) {
         fault = (struct fault){"the states' memories differ", STATE, (long)i};
         return fault;
     }
-    if (!lent_watched(&lent[OURS][STATE], about.bytes) || !lent_watched(&lent[PLAIN][STATE], about.plain_bytes))
+    if (!lent_watched(&lent[OURS][STATE], n) || !lent_watched(&lent[PLAIN][STATE], state_bytes(PLAIN)))
         fault.what = "a byte around the state is changed";
     else if ((fault.at = lent_differ(out, &lent[PLAIN][BUFFER], now.room)) != NOWHERE)
         fault.what = fault.at < 0 || fault.at >= (long)now.room ? "the bytes around the outputs differ" : "the outputs differ";
@@ -195,7 +201,7 @@ static void hold_both(void)
     count();
     if (has_state()) {
         now.numbers = result[OURS].numbers;
-        memcpy(now.memory, result[OURS].memory, about.bytes);
+        memcpy(now.memory, result[OURS].memory, state_bytes(OURS));
     }
 }
 
@@ -258,8 +264,8 @@ int get_call(const char *name)
     now.n = (size_t)get_number(f);
     now.input = input;
     if (now.phase >= about.phases || now.sort >= about.sorts || now.planted > SIDES || now.how >= about.wrongs || now.pattern >= PATTERNS
-        || now.room > BUFFER_ROOM || now.n > sizeof input || fread(now.memory, 1, about.bytes, f) != about.bytes
-        || fread(input, 1, now.n, f) != now.n || getc(f) != EOF)
+        || now.room > BUFFER_ROOM || now.n > sizeof input || state_bytes(OURS) > MEMORY_MOST
+        || fread(now.memory, 1, state_bytes(OURS), f) != state_bytes(OURS) || fread(input, 1, now.n, f) != now.n || getc(f) != EOF)
         return not_kept(name, f);
     fclose(f);
     return 0;

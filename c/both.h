@@ -1,11 +1,11 @@
-/* What the harnesses of the tunnel and of the guide share: a call with a state, which is given to both sides, compared, told, kept and run again. */
+/* What the harnesses of the tunnel, of the guide and of explanations share: a call with a state, which is given to both sides, compared, told, kept and run again. */
 #ifndef BOTH_H
 #define BOTH_H
 
 #include "lent.h"
 
 enum { STATE, INPUT, BUFFER, MEMORIES };
-enum { MEMORY_MOST = 1500 }; /* bytes of a state's memory */
+enum { MEMORY_MOST = BUFFER_ROOM }; /* bytes of a state's memory */
 
 struct call {
     int phase;
@@ -48,7 +48,7 @@ extern const struct about {
     int phases, sorts;
     unsigned wrongs;           /* ways in which a result is made wrong */
     const char *memory;        /* what the state's memory is called */
-    size_t bytes, plain_bytes; /* how long it is, and the state as the plain side has it */
+    size_t bytes, plain_bytes; /* how long it is (0: as long as the call's other says), and the state as the plain side has it (then, at the most) */
     int words;                 /* 1: it is numbers of 8 bytes, and stands where these may */
 } about;
 

@@ -297,10 +297,7 @@ static size_t any_length(size_t n)
 /* A chunk of this shape whose records take at most so many bytes. */
 static void any_chunk(const struct make_shape *shape, size_t most)
 {
-    make_list(&rng, &list, shape, most);
-    if (rng_once_in(&rng, 3))
-        make_unknown(&rng, &list);
-    make_chunk(&rng, &list, shape, &made);
+    make_any_chunk(&rng, &list, shape, most, &made);
 }
 
 /* Every length from 0 to 561. */

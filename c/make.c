@@ -160,6 +160,14 @@ void make_chunk(struct rng *r, const struct make_list *list, const struct make_s
     to->start[i] = to->n;
 }
 
+void make_any_chunk(struct rng *r, struct make_list *list, const struct make_shape *shape, size_t limit, struct made *to)
+{
+    make_list(r, list, shape, limit);
+    if (rng_once_in(r, 3))
+        make_unknown(r, list);
+    make_chunk(r, list, shape, to);
+}
+
 void make_stuffing(struct rng *r, struct made *chunk, size_t length)
 {
     const unsigned style = chunk->shape.ones ? 0 : rng_below(r, 4);

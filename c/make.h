@@ -72,6 +72,9 @@ size_t make_size(const struct make_list *list, const struct make_shape *shape);
 /* The list's chunk, without stuffing; its length must be at most MAKE_ROOM. */
 void make_chunk(struct rng *r, const struct make_list *list, const struct make_shape *shape, struct made *to);
 
+/* A list and its chunk, of this shape and of at most so many bytes; some have unknown ensembles. */
+void make_any_chunk(struct rng *r, struct make_list *list, const struct make_shape *shape, size_t limit, struct made *to);
+
 /* Stuffing up to that length, if the chunk is shorter. */
 void make_stuffing(struct rng *r, struct made *chunk, size_t length);
 

@@ -8,13 +8,9 @@ static struct section section;
 static struct tables tables;
 
 /* The section as a record with this mark, at most so many bytes of it. */
-static void put_record(const char *mark, size_t most)
+static void put_section(const char *mark, size_t most)
 {
-    const uint8_t head[4] = {(uint8_t)mark[0], (uint8_t)mark[1], (uint8_t)(section.n >> 8), (uint8_t)section.n};
-
-    fwrite(head, 1, most < sizeof head ? most : sizeof head, stdout);
-    if (most > sizeof head)
-        fwrite(section.bytes, 1, most - sizeof head < section.n ? most - sizeof head : section.n, stdout);
+    put_marked(mark, section.bytes, section.n, most);
 }
 
 static void make_next(const char *what)
@@ -50,14 +46,14 @@ int main(int argc, char **argv)
         make_next(damaged ? "mixed" : words.what);
         if (damaged && rng_once_in(&rng, 2))
             damage();
-        put_record("SE", SIZE_MAX);
+        put_section("SE", SIZE_MAX);
     }
     make_next("small");
     if (words.cut)
-        put_record("SE", 1 + rng_below(&rng, 3 + (unsigned)section.n));
+        put_section("SE", 1 + rng_below(&rng, 3 + (unsigned)section.n));
     if (words.unknown) {
-        put_record(marks[rng_below(&rng, sizeof marks / sizeof *marks)], SIZE_MAX);
-        put_record("SE", SIZE_MAX);
+        put_section(marks[rng_below(&rng, sizeof marks / sizeof *marks)], SIZE_MAX);
+        put_section("SE", SIZE_MAX);
     }
     return all_written("makeguide", stdout);
 }

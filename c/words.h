@@ -1,4 +1,4 @@
-/* The words that the makers of files take, and how they end. */
+/* The words that the makers of files take, a record that they write, and how they end. */
 #ifndef WORDS_H
 #define WORDS_H
 
@@ -47,6 +47,16 @@ static inline int read_words(int argc, char **argv, const char *name, const char
         return 1;
     fprintf(stderr, "usage: %s [--seed N] [%s M] [--what %s] [--cut | --unknown]\n", name, count, whats);
     return 0;
+}
+
+/* A record with its length behind its mark, at most so many bytes of it, to standard output. */
+static inline void put_marked(const char *mark, const uint8_t *bytes, size_t n, size_t most)
+{
+    const uint8_t head[4] = {(uint8_t)mark[0], (uint8_t)mark[1], (uint8_t)(n >> 8), (uint8_t)n};
+
+    fwrite(head, 1, most < sizeof head ? most : sizeof head, stdout);
+    if (most > sizeof head)
+        fwrite(bytes, 1, most - sizeof head < n ? most - sizeof head : n, stdout);
 }
 
 /* The exit status, once all is written; a file that could not be opened is none. */

@@ -1,5 +1,5 @@
-/* Lukasembo for programs in C: the reader and the writer of FIC chunks, those of the tunnel, and the reader of the guide table, proved to meet the definitions of this
- * repository.
+/* Lukasembo for programs in C: the reader and the writer of FIC chunks, what explains their refusals, those of the tunnel, and the reader of the guide table, proved to
+ * meet the definitions of this repository.
  *
  * Linking. The archive is target/staticlib/liblukasembo.a, made by `rt staticlib lukasembo`. It is for x86-64 and needs nothing of the C library:
  *
@@ -41,6 +41,14 @@
  * The order is the chunk's: TS, then each EN with its SVs right after it, or EU. The number in TS counts both. The ensemble id in an SV is the id of the EN
  * above it, so that a service tells its ensemble wherever its record goes. An EU says: the relay sends an ensemble of a version that this library does not
  * know, and its services are not listed.
+ *
+ * Explanations. Three calls tell why a chunk, a segment, or a segment beside what was gathered of its kind is refused: the number, the field at fault, its offset in
+ * bits and the value found there. They change nothing. The faults of a chunk that came in segments are asked of the chunk:
+ *
+ *     struct lukasembo_explanation why = lukasembo_explain_chunk(chunk, length);
+ *
+ *     if (lukasembo_number(why.answer) != LUKASEMBO_ACCEPTED)
+ *         printf("%s at bit %zu is %llu\n", lukasembo_field_name(why.answer), lukasembo_bit(why.answer), (unsigned long long)why.value);
  *
  * The tunnel (ATSC A/324, 6.3). Outer packets, of 12 to LUKASEMBO_OUTER bytes, carry inner IPv4 packets end to end, split where they fall. A call takes one
  * outer packet. Lent to it are the reader's state, which keeps the part of an inner packet that goes on in the next outer packet, and an output, to whose
@@ -109,14 +117,20 @@
 extern "C" {
 #endif
 
-/* The numbers that these calls give: R the reader, W the writer, T the tunnel's reader, S the reader of a store, O the tunnel's writer, G the guide's reader. */
+/* The numbers that these calls give: R the reader, W the writer, E an explanation, T the tunnel's reader, S the reader of a store, O the tunnel's writer, G the guide's
+ * reader. */
 enum lukasembo_number {
     LUKASEMBO_ACCEPTED = 0,
     LUKASEMBO_SHORT_BUFFER = 1,   /* R W T: a listing buffer under LUKASEMBO_LISTING bytes, an output under LUKASEMBO_OUTPUT, LUKASEMBO_UNWRAPPED;
                                    * O: an output shorter than the outer packets that this call finishes */
-    LUKASEMBO_OTHER_MAJOR = 5,    /* R: the major version is not 0 */
-    LUKASEMBO_TOO_LONG = 8,       /* R: a chunk over LUKASEMBO_CHUNK bytes */
-    LUKASEMBO_ENDS_EARLY = 9,     /* R: a chunk ends too early; lukasembo_offset tells where it ran out */
+    LUKASEMBO_OTHER_LENGTH = 2,   /* E: a segment is not LUKASEMBO_SEGMENT bytes */
+    LUKASEMBO_OTHER_TYPE = 3,     /* E: its type is not 0 */
+    LUKASEMBO_IN_ERROR = 4,       /* E: its error bit is 1 */
+    LUKASEMBO_OTHER_MAJOR = 5,    /* R E: the major version is not 0, of a chunk; E: of a segment */
+    LUKASEMBO_PAST_LAST = 6,      /* E: a segment's number is above its last number */
+    LUKASEMBO_CLASH = 7,          /* E: the slot is spoiled, or has another last number, or other payload in the segment's place */
+    LUKASEMBO_TOO_LONG = 8,       /* R E: a chunk over LUKASEMBO_CHUNK bytes */
+    LUKASEMBO_ENDS_EARLY = 9,     /* R E: a chunk ends too early; lukasembo_offset tells where it ran out, and an explanation the field */
     LUKASEMBO_BAD_LISTING = 13,   /* W: marks, counts and length do not agree, a field is over its limit, a service's ensemble id is not that of the EN above it, or
                                    * there is an EU */
     LUKASEMBO_TOO_MANY = 14,      /* W: the chunk, 5 + 4 x ensembles + 3 x services bytes, would be over LUKASEMBO_CHUNK */
@@ -153,7 +167,7 @@ enum {
     LUKASEMBO_SECTION = 4096   /* the longest section of the guide */
 };
 
-/* An answer is one number; these take it apart. */
+/* An answer is one number; these take it apart. (An explanation's has a form of its own, but for the refusal's number: it stands with its calls, below.) */
 
 /* where it is not LUKASEMBO_ACCEPTED, all else is 0, but LUKASEMBO_ENDS_EARLY and LUKASEMBO_RUNS_OVER have their offset, and LUKASEMBO_BAD_OFFSET a gap and what is
  * lost */
@@ -203,6 +217,55 @@ uint64_t lukasembo_read(const uint8_t *chunk, size_t chunk_length, uint8_t *buff
  * The compiler makes 0 or 1 of what is given for a bool, so that a segment's seg[0] & 2 is a kind as it stands. (The function itself has a u8 there,
  * which x86-64 passes in the same way.) */
 uint64_t lukasembo_write(const uint8_t *listing, size_t listing_length, bool kind, uint8_t *output, size_t output_length);
+
+/* An explanation: the answer has, in bits 0 to 7, the number of the refusal that is explained (lukasembo_number; LUKASEMBO_ACCEPTED where there is nothing to
+ * explain, and then all of it is 0), in bits 8 to 15 the field, and in bits 32 to 63 its offset in bits; the value found stands by itself. */
+struct lukasembo_explanation {
+    uint64_t answer, value;
+};
+
+/* The field: a row of a table of A/153 Part 3, rows from 0 and a run of extension bytes one row, counted from these; or no row of a table. */
+enum lukasembo_field {
+    LUKASEMBO_NO_FIELD = 0,       /* nothing to explain */
+    LUKASEMBO_LENGTH_FIELD = 1,   /* with 2 and 8: the offset is 0, the value the byte count */
+    LUKASEMBO_PAYLOAD_FIELD = 2,  /* with 7: the offset, in the segment, of the first payload byte that differs, and the segment's byte */
+    LUKASEMBO_SPOILED = 3,        /* with 7: the slot was spoiled before; offset and value are 0 */
+    LUKASEMBO_CHUNK_FIELD = 0x10,    /* Table 6.5: 0x10 + 0 to 9 */
+    LUKASEMBO_ENSEMBLE_FIELD = 0x20, /* Table 6.6, an ensemble: 0x20 + 0 to 8 */
+    LUKASEMBO_SERVICE_FIELD = 0x30,  /* Table 6.6, a service: 0x30 + 0 to 5 */
+    LUKASEMBO_SEGMENT_FIELD = 0x40   /* Table 6.9: 0x40 + 0 to 7 */
+};
+static inline unsigned lukasembo_field(uint64_t answer) { return (unsigned)(answer >> 8 & 0xFF); }
+static inline size_t lukasembo_bit(uint64_t answer) { return (size_t)(answer >> 32); }
+
+/* The field's name: the standard's own, or "length", "payload" or "slot spoiled"; "" where there is nothing to explain. */
+static inline const char *lukasembo_field_name(uint64_t answer)
+{
+    static const char *const names[][10] = {
+        {"", "length", "payload", "slot spoiled"},
+        {"FIC_chunk_major_protocol_version", "FIC_chunk_minor_protocol_version", "FIC_chunk_header_extension_length", "ensemble_loop_header_extension_length",
+         "MH_service_loop_extension_length", "reserved", "current_next_indicator", "transport_stream_id", "header_extension_byte", "num_ensembles"},
+        {"ensemble_id", "reserved", "ensemble_protocol_version", "SLT_ensemble_indicator", "GAT_ensemble_indicator", "EAT_ensemble_indicator",
+         "MH_service_signaling_channel_version", "ensemble_loop_header_extension_byte", "num_MH_services"},
+        {"MH_service_id", "reserved", "multi_ensemble_service", "MH_service_status", "SP_indicator", "MH_service_loop_extension_byte"},
+        {"FIC_segment_type", "reserved", "wake_up_indicator", "FIC_chunk_major_protocol_version", "current_next_indicator", "error_indicator", "FIC_segment_num",
+         "FIC_last_segment_num"}
+    };
+    const unsigned table = lukasembo_field(answer) >> 4, row = lukasembo_field(answer) & 15;
+    const char *name = table < sizeof names / sizeof *names && row < sizeof *names / sizeof **names ? names[table][row] : NULL;
+
+    return name != NULL ? name : "";
+}
+
+/* Explains why the reader would refuse a chunk, its buffer long enough: 8, 9, 5, 9, in the reader's order. */
+struct lukasembo_explanation lukasembo_explain_chunk(const uint8_t *chunk, size_t chunk_length);
+
+/* Explains why a segment would be refused for its own length or header: 2, 3, 4, 5, 6. */
+struct lukasembo_explanation lukasembo_explain_segment(const uint8_t *segment, size_t segment_length);
+
+/* The same, then why the slot of its kind would refuse it: 7. The slot's numbers are one number: bits 0 to 15 the places held, bit n for segment n; 16 to 23 the
+ * last number; 24 to 63 not 0: it is spoiled. Its bytes are 16 places of LUKASEMBO_PAYLOAD; where there are fewer, what is missing differs from any byte. */
+struct lukasembo_explanation lukasembo_explain_gathered(const uint8_t *segment, size_t segment_length, uint64_t slot, const uint8_t *bytes, size_t bytes_length);
 
 /* The state of the tunnel's reader. All zeros is a fresh one, which takes any sequence number. Any other content is a state too: it holds the first bytes of
  * the part, as many as the numbers say or all, if these begin with half byte 4 and, from four bytes on, have a length (bytes 2 and 3) that is within the

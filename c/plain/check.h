@@ -87,4 +87,34 @@ static inline int has(const char *file, const void *want, size_t n)
     return came == n && memcmp(got, want, n) == 0;
 }
 
+/* Runs a command with the program in it; whether the status, the output and standard error are these. */
+static inline int does(const char *command, int status, const char *out, const char *err)
+{
+    char line[600];
+
+    snprintf(line, sizeof line, command, program);
+    return system(line) == status && has("test.out", out, strlen(out)) && has("test.err", err, strlen(err));
+}
+
+/* Whether it does so, and this, behind its name, is what it says on standard error. */
+static inline int says(const char *command, int status, const char *name, const char *what)
+{
+    char line[200];
+
+    snprintf(line, sizeof line, "%s: %s\n", name, what);
+    return does(command, status, "", line);
+}
+
+/* Of a program that prints lines: what it reads and writes fails, and it has a word. What it has for the file of its last input begins with S. */
+static inline void check_failures(const char *name)
+{
+    CHECK(says(": >test.out; %s <test.in >/dev/full 2>test.err", 0, name, "standard output could not be written: No space left on device"));
+    CHECK(does("(%s <test.in 2>test.err; echo $? >>test.err) | head -c 1 >test.out", 0, "S", "0\n"));
+    CHECK(says("%s </ >test.out 2>test.err", 0, name, "standard input could not be read: Is a directory"));
+    CHECK(says("%s word <test.in >test.out 2>test.err", 512, name, "takes no words; put < before a file's name"));
+    remove("test.in");
+    remove("test.out");
+    remove("test.err");
+}
+
 #endif

@@ -14,9 +14,16 @@ struct chunk_facts {
     size_t length;   /* of the listing */
 };
 
+static int ends_early(struct plain_ran_out *ran_out, enum plain_thing thing, size_t at)
+{
+    ran_out->thing = thing;
+    ran_out->at = at;
+    return 9;
+}
+
 /* The reader's checks from 8 on. Writes nothing but the facts, where it answers
-   0, and *ran_out, where it answers 9: the offset of what does not fit whole. */
-static int check_chunk(const uint8_t *chunk, size_t n, struct chunk_facts *facts, size_t *ran_out)
+   0, and *ran_out, where it answers 9: what does not fit whole. */
+static int check_chunk(const uint8_t *chunk, size_t n, struct chunk_facts *facts, struct plain_ran_out *ran_out)
 {
     struct chunk_facts f;
     size_t left, length;
@@ -25,10 +32,8 @@ static int check_chunk(const uint8_t *chunk, size_t n, struct chunk_facts *facts
 
     if (n > PLAIN_CHUNK)
         return 8;
-    if (n < 2) {
-        *ran_out = 0;
-        return 9;
-    }
+    if (n < 2)
+        return ends_early(ran_out, PLAIN_HEADER, 0);
     if (chunk[0] >> 6 != 0)
         return 5;
     f.minor = chunk[0] >> 3 & 7u;
@@ -36,10 +41,8 @@ static int check_chunk(const uint8_t *chunk, size_t n, struct chunk_facts *facts
     f.ensemble = 4u + (chunk[1] >> 5);
     f.service = 3u + (chunk[1] >> 2 & 7u);
     f.kind = chunk[1] & 1u;
-    if (n < f.header) {
-        *ran_out = 0;
-        return 9;
-    }
+    if (n < f.header)
+        return ends_early(ran_out, PLAIN_HEADER, 0);
 
     ensembles = chunk[f.header - 1];
     at = chunk + f.header;
@@ -48,25 +51,28 @@ static int check_chunk(const uint8_t *chunk, size_t n, struct chunk_facts *facts
     for (; ensembles > 0; ensembles--) {
         size_t services, loop;
 
-        if (left < f.ensemble) {
-            *ran_out = n - left;
-            return 9;
-        }
+        if (left < f.ensemble)
+            return ends_early(ran_out, PLAIN_ENSEMBLE, n - left);
         services = at[f.ensemble - 1];
         length += (at[1] & 0x1F) == 0 ? 6 + PLAIN_SV * services : 4; /* EN with its SVs, or EU */
         at += f.ensemble;
         left -= f.ensemble;
         loop = services * f.service;
-        if (left < loop) {
-            *ran_out = n - left % f.service; /* behind those that fit whole */
-            return 9;
-        }
+        if (left < loop)
+            return ends_early(ran_out, PLAIN_SERVICE, n - left % f.service); /* behind those that fit whole */
         at += loop;
         left -= loop;
     }
     f.length = length;
     *facts = f;
     return 0;
+}
+
+int plain_check(const uint8_t *chunk, size_t n, struct plain_ran_out *ran_out)
+{
+    struct chunk_facts facts;
+
+    return check_chunk(chunk, n, &facts, ran_out);
 }
 
 /* Writes the listing, facts.length bytes, of a chunk that check_chunk accepts. */
@@ -125,7 +131,7 @@ struct plain_read plain_read(const uint8_t *chunk, size_t n, uint8_t *buffer, si
 {
     struct plain_read answer = {0, 0, 0, 0, 0};
     struct chunk_facts facts;
-    size_t ran_out = 0;
+    struct plain_ran_out ran_out = {PLAIN_HEADER, 0};
 
     if (room < PLAIN_LISTING) {
         answer.number = 1;
@@ -133,7 +139,7 @@ struct plain_read plain_read(const uint8_t *chunk, size_t n, uint8_t *buffer, si
     }
     answer.number = check_chunk(chunk, n, &facts, &ran_out);
     if (answer.number != 0) {
-        answer.at = ran_out;
+        answer.at = ran_out.at;
         return answer;
     }
     list_chunk(chunk, &facts, buffer);
@@ -364,11 +370,11 @@ static struct plain_answer read_slot(struct plain_desk *desk, unsigned kind,
     /* This frame has the first buffer unless swapped, the next the other. */
     uint8_t *buffer = (kind == 1) == (desk->swapped == 0) ? first : second;
     struct chunk_facts facts;
-    size_t ran_out = 0;
+    struct plain_ran_out ran_out = {PLAIN_HEADER, 0};
 
     answer.number = check_chunk(slot->bytes, PLAIN_PAYLOAD * (slot->last + 1u), &facts, &ran_out);
     if (answer.number != 0) {
-        answer.at = ran_out;
+        answer.at = ran_out.at;
         return answer;
     }
     if (facts.kind != kind)

@@ -19,9 +19,16 @@ enum {
    than 0 is taken for "this". Memory that is lent to be written must not
    overlap other memory of the same call. A pointer with length 0 may be null. */
 
-/* In both answers, at is of number 9: the offset in the chunk of the first thing
-   that does not fit whole; else 0. A thing is the header, an ensemble's fields
-   or a single service, each with its extension bytes. */
+/* A thing of a chunk is the header, an ensemble's fields or a single service,
+   each with its extension bytes. */
+enum plain_thing { PLAIN_HEADER, PLAIN_ENSEMBLE, PLAIN_SERVICE };
+
+/* The first thing that does not fit whole, and its offset in the chunk. In the
+   answers of a reader and of a desk, at is that offset with number 9; else 0. */
+struct plain_ran_out {
+    enum plain_thing thing;
+    size_t at;
+};
 
 struct plain_read {
     int number; /* 0 where accepted; on refusal the rest but at is 0 */
@@ -64,6 +71,10 @@ struct plain_answer {
    version other than 0 is listed as EU, id, version, without its services; a
    service of any other has its ensemble's id behind its mark. */
 struct plain_read plain_read(const uint8_t *chunk, size_t n, uint8_t *buffer, size_t room);
+
+/* The number that it answers if there is room; with 9, and only then, *ran_out
+   is what does not fit whole. */
+int plain_check(const uint8_t *chunk, size_t n, struct plain_ran_out *ran_out);
 
 /* Writes the segments of a listing without EU, and with each service under the
    EN whose id it has, to the start of out. */

@@ -2,22 +2,11 @@
 #define _POSIX_C_SOURCE 200809L
 
 #include "guide.h"
-#include "output.h"
-#include "records.h"
+#include "program.h"
 
-#include <signal.h>
-#include <stdio.h>
+enum { LINES = 64 + 10 * PLAIN_NAMES + 4 * PLAIN_SECTION }; /* more than one record ever prints */
 
-enum {
-    RECORD = HEAD + 65535,                            /* the longest */
-    LINES = 64 + 10 * PLAIN_NAMES + 4 * PLAIN_SECTION /* more than one record ever prints */
-};
-
-struct work {
-    struct plain_guide gathering;
-    struct output lines;
-    uint8_t in[RECORD - 1 + BLOCK]; /* the start of a cut record, then a block */
-};
+static struct plain_guide gathering;
 
 /* Bytes 20 to 7E as they are, but the backslash twice; any other as \x and two digits. */
 static void put_escaped(struct output *out, const struct plain_name *name)
@@ -60,12 +49,10 @@ static void put_names(struct output *out, const uint8_t *section, size_t length)
     }
 }
 
-static void do_section(struct work *w, const uint8_t *section, size_t length)
+static void do_section(struct output *to, const uint8_t *section, size_t length)
 {
-    struct output *to = &w->lines;
-    const struct plain_guide_answer a = plain_guide(&w->gathering, section, length);
+    const struct plain_guide_answer a = plain_guide(&gathering, section, length);
 
-    make_room(to, sizeof to->bytes, LINES);
     switch (a.sort) {
     case PLAIN_NOTED:
         put_text(to, "SE 0 missing ");
@@ -83,88 +70,24 @@ static void do_section(struct work *w, const uint8_t *section, size_t length)
         put_text(to, "SE not yet\n");
         break;
     case PLAIN_REFUSED:
-        put_text(to, "SE ");
-        put_number(to, a.number, a.number == 23 ? ' ' : '\n');
-        if (a.number == 23) {
-            put_text(to, "at ");
-            put_number(to, a.at, '\n');
-        }
+        put_refused(to, "SE ", a.number, 23, a.at);
         break;
     }
 }
 
-/* Takes whole records from the start of what is there. Answers how many bytes they are; *unknown is 1 if an unknown mark follows them. */
-static size_t take_records(struct work *w, size_t n, int *unknown)
+static size_t take(struct output *out, const uint8_t *in, size_t n)
 {
-    size_t at = 0, size;
+    const size_t size = record_at(in, n, "SE");
 
-    while (!w->lines.failed && (size = record_at(w->in + at, n - at, "SE")) != 0) {
-        if (size == UNKNOWN) {
-            *unknown = 1;
-            break;
-        }
-        do_section(w, w->in + at + HEAD, size - HEAD);
-        at += size;
-    }
-    return at;
-}
-
-/* Tells why it stops before the end of the input, but not that whoever read its lines has gone. */
-static void tell(const char *what, int why)
-{
-    if (why != EPIPE)
-        fprintf(stderr, "plainguide: standard %s: %s\n", what, strerror(why));
-}
-
-/* Hands over what there is; whether that went well. */
-static int hand_over(struct output *lines)
-{
-    flush(lines);
-    if (lines->failed)
-        tell("output could not be written", lines->failed);
-    return !lines->failed;
-}
-
-static void run(struct work *w)
-{
-    size_t kept = 0; /* of a cut record */
-    int unknown = 0;
-
-    for (;;) {
-        ssize_t got = read(STDIN_FILENO, w->in + kept, BLOCK);
-        size_t n, taken;
-
-        if (got < 0 && errno == EINTR)
-            continue;
-        if (got < 0) {
-            tell("input could not be read", errno);
-            return;
-        }
-        n = kept + (size_t)got;
-        taken = take_records(w, n, &unknown);
-        kept = n - taken;
-        if (got == 0 || unknown) {
-            make_room(&w->lines, sizeof w->lines.bytes, LINES);
-            put_text(&w->lines, kept > 0 ? "END 15\n" : "END 0\n");
-        }
-        /* what there is goes out before more is waited for */
-        if (!hand_over(&w->lines) || got == 0 || unknown)
-            return;
-        memmove(w->in, w->in + taken, kept);
-    }
+    if (size != 0 && size != UNKNOWN)
+        do_section(out, in + HEAD, size - HEAD);
+    return size;
 }
 
 int main(int argc, char **argv)
 {
-    static struct work work;
+    static const struct program guide = {"plainguide", LINES, take};
 
     (void)argv;
-    if (argc > 1) {
-        fprintf(stderr, "plainguide: takes no words; put < before a file's name\n");
-        return 2;
-    }
-    signal(SIGPIPE, SIG_IGN);
-    work.lines.to = STDOUT_FILENO;
-    run(&work);
-    return 0;
+    return run_program(&guide, argc);
 }

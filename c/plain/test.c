@@ -3,8 +3,7 @@
    what differs. */
 #define _POSIX_C_SOURCE 200809L
 
-#include "check.h"
-#include "plain.h"
+#include "check_log.h"
 
 static uint32_t seed = 1;
 
@@ -1217,21 +1216,6 @@ static void model_tests(void)
 
 /* ---- The log program ---- */
 
-static char want[4000000];
-static size_t want_n;
-
-static void expect(const char *text)
-{
-    want_n += (size_t)sprintf(want + want_n, "%s", text);
-}
-
-static void expect_hex(const uint8_t *p, size_t n)
-{
-    for (; n > 0; n--)
-        want_n += (size_t)sprintf(want + want_n, "%02x", *p++);
-    expect("\n");
-}
-
 /* What the log so far must print, from the calls with their checks. */
 static void expect_log(void)
 {
@@ -1249,27 +1233,13 @@ static void expect_log(void)
         } else if (input_n - at >= 2 && memcmp(input + at, "FR", 2) == 0) {
             plain_frame(&g.desk);
             p = shown(&g, 1, &n);
-            if (n == 0)
-                expect("FR none\n");
-            else {
-                want_n += (size_t)sprintf(want + want_n, "FR %zu\n", n);
-                expect_hex(p, n);
-            }
+            expect_frame(p, n);
             at += 2;
         } else if (input_n - at >= 39 && memcmp(input + at, "SG", 2) == 0) {
-            struct plain_answer a = give(&g, input + at + 2);
+            const struct plain_answer a = give(&g, input + at + 2);
 
-            if (a.number == 9)
-                want_n += (size_t)sprintf(want + want_n, "SG 9 at %zu\n", a.at);
-            else if (a.number != 0)
-                want_n += (size_t)sprintf(want + want_n, "SG %d\n", a.number);
-            else if (!a.listed)
-                want_n += (size_t)sprintf(want + want_n, "SG 0 missing %zu\n", a.missing);
-            else {
-                want_n += (size_t)sprintf(want + want_n, "SG 0 list %s %zu\n", a.kind ? "this" : "next", a.length);
-                p = shown(&g, a.kind, &n);
-                expect_hex(p, n);
-            }
+            p = a.listed ? shown(&g, a.kind, &n) : NULL;
+            expect_answer(&a, p);
             at += 39;
         } else {
             expect("END 15\n");
@@ -1277,12 +1247,6 @@ static void expect_log(void)
         }
     }
     expect("END 0\n");
-}
-
-/* Runs the program on the log, given in pieces of that many bytes (0: a file). */
-static int prints(size_t piece)
-{
-    return run_program(">test.out", piece) == 0 && has("test.out", want, want_n);
 }
 
 /* The records of so many payloads from the start of c. */
@@ -1361,7 +1325,7 @@ static void log_tests(void)
     expect("SG 0 missing 1\nSG 9 at 63\nSG 0 missing 0\nSG 0 missing 0\nGA\n"
            "SG 9 at 35\nSG 0 missing 0\nFR none\n");
     for (i = 15; i > 0; i--)
-        want_n += (size_t)sprintf(want + want_n, "SG 0 missing %u\n", i);
+        EXPECT("SG 0 missing %u\n", i);
     expect("SG 9 at 558\nEND 0\n");
     CHECK(prints(0));
     CHECK(prints(40));

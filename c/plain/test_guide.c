@@ -458,26 +458,10 @@ static void program_streams(void)
     CHECK(prints("END 0\n", 0));
 }
 
-/* Runs a command with the program in it; whether the status, the output and standard error are these. */
-static int tells(const char *command, int status, const char *out, const char *err)
+/* Its input comes slowly. */
+static void program_waits(void)
 {
-    char line[600];
-
-    snprintf(line, sizeof line, command, program);
-    return system(line) == status && has("test.out", out, strlen(out)) && has("test.err", err, strlen(err));
-}
-
-/* What it reads and writes fails; its input comes slowly. */
-static void program_fails(void)
-{
-    CHECK(tells(": >test.out; %s <test.in >/dev/full 2>test.err", 0, "", "plainguide: standard output could not be written: No space left on device\n"));
-    CHECK(tells("(%s <test.in 2>test.err; echo $? >>test.err) | head -c 1 >test.out", 0, "S", "0\n"));
-    CHECK(tells("%s </ >test.out 2>test.err", 0, "", "plainguide: standard input could not be read: Is a directory\n"));
-    CHECK(tells("%s word <test.in >test.out 2>test.err", 512, "", "plainguide: takes no words; put < before a file's name\n"));
-    CHECK(tells("(printf 'SE\\0'; sleep 0.2; printf '\\0'; sleep 0.5; cp test.out test.err) | %s >test.out", 0, "SE 20\nEND 0\n", "SE 20\n"));
-    remove("test.in");
-    remove("test.out");
-    remove("test.err");
+    CHECK(does("(printf 'SE\\0'; sleep 0.2; printf '\\0'; sleep 0.5; cp test.out test.err) | %s >test.out", 0, "SE 20\nEND 0\n", "SE 20\n"));
 }
 
 int main(int argc, char **argv)
@@ -491,7 +475,8 @@ int main(int argc, char **argv)
         program = argv[1];
         program_by_hand();
         program_streams();
-        program_fails();
+        program_waits();
+        check_failures("plainguide");
     } else
         printf("no program given: not tested\n");
     return verdict();

@@ -26,12 +26,17 @@ struct Printed {
     to: usize,
 }
 
+// The mark of a section, and the number that its two bytes say.
+const SE: [u8; 2] = *b"SE";
+
+const SECTION_MARK: u16 = SE[0] as u16 * 256 + SE[1] as u16;
+
 // What a mark of the file tells.
 fn form_of(mark: u16) -> Form
     ensures { λ r. ⌜ r ≡ guideForm mark ⌝ }
 {
     match mark {
-        0x5345 => Form::Counted {
+        SECTION_MARK => Form::Counted {
             least: 0,
             most: 65535,
         },

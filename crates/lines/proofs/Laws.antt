@@ -42,7 +42,7 @@ pub length-kind : (k : Kind) → length (kindText k) ≡ 15
 length-kind This = omega arith
 length-kind Next = omega arith
 
-length-refusal : (f : Refusal) → offsetOf f < 2 ^ 64 → length (refusalLine f) ≤ 28
+pub length-refusal : (f : Refusal) → offsetOf f < 2 ^ 64 → length (refusalLine f) ≤ 28
 length-refusal f h = length-refused 9 (numberOf f) (offsetOf f) (omega (arith, numberOf-small f)) h
 
 -- the counts of an answer are not too great

@@ -52,8 +52,8 @@ fn put_kind(kind: Kind, out: &mut [u8], to: usize) -> usize
     }
 }
 
-// A refusal, to the end of its line; 9 tells an offset.
-fn put_refusal(refusal: Refusal, out: &mut [u8], to: usize) -> usize
+// A refusal, to the end of its line; 9 tells an offset. Internal, as those below: `explain_lines` and `replay` call them.
+pub fn put_refusal(refusal: Refusal, out: &mut [u8], to: usize) -> usize
     requires { ⌜ to + 32 ≤ length (now out) ⌝ }
     ensures { λ r. ⌜ Put (refusalLine refusal) (now (out .entry)) to (now (out .exit)) r ⌝ }
 {

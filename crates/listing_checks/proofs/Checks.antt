@@ -9,6 +9,7 @@ use lib.Dec.{leb, eqb}
 use lib.ListN.{length, getD, drop, length-drop}
 use lib.Seq.{getD-drop, drop-drop}
 use Rattle.octets.proofs.Laws.{either, getD-there}
+use Rattle.octets.proofs.Stores.{two-bytes}
 use Rattle.records.specs.Records.{markBytes}
 use Rattle.meaning.specs.Sizes.{enBytes, svBytes, mostFlags, mostChannel, mostMulti, mostStatus, mostSP}
 use Rattle.meaning.specs.Listing.{markEN, markSV}
@@ -28,8 +29,11 @@ abbrev pub after : ℕ → ℕ → ℕ
 after at k = at + enBytes + svBytes * k
 
 module _ (xs : List ℕ) (at : ℕ) where
-  pub marked-at : (a b : ℕ) → at + markBytes ≤ length xs → marked (a ∷ b ∷ []) (drop at xs) ≡ (eqb (getD xs at 0) a && eqb (getD xs (at + 1) 0) b)
-  marked-at a b h = marked-tests a b (drop at xs) (omega (arith, length-drop at xs)) ∙ simp (getD-there xs at, getD-drop at xs 1 0)
+  pub marked-at : (mark : List ℕ) → length mark ≡ markBytes → at + markBytes ≤ length xs → marked mark (drop at xs) ≡ (eqb (getD xs at 0) (getD mark 0 0) && eqb (getD xs (at + 1) 0) (getD mark 1 0))
+  marked-at mark long h =
+      ap (λ (m : List ℕ). marked m (drop at xs)) (two-bytes mark long)
+      ∙ marked-tests (getD mark 0 0) (getD mark 1 0) (drop at xs) (omega (arith, length-drop at xs))
+      ∙ simp (getD-there xs at, getD-drop at xs 1 0)
 
   -- it has its n bytes too
   pub stands-at : (mark : List ℕ) (n : ℕ) → stands mark n (drop at xs) ≡ (leb n (length xs - at) && marked mark (drop at xs))

@@ -12,7 +12,6 @@ use meaning::SV_BYTES;
 use meaning::TS_BYTES;
 ghost use mathlib.Core.Path.{_≡_};
 ghost use mathlib.Core.Bool.{cond};
-ghost use mathlib.Core.List.{[], _∷_};
 ghost use Prim.Native.Nat.{_+_, _≤_};
 ghost use lib.ListN.{length, drop};
 ghost use Rattle.records.specs.Records.{markBytes};
@@ -22,25 +21,25 @@ ghost use Rattle.meaning.specs.Plain.{plainLength};
 ghost use Rattle.listing_checks.specs.Lengths.{ensemblesLength};
 
 // Whether this mark is at a place of the listing, which has room for one there.
-fn marked(listing: &[u8], at: usize, first: u8, second: u8) -> bool
+fn marked(listing: &[u8], at: usize, mark: [u8; 2]) -> bool
     requires { ⌜ at + markBytes ≤ length (now listing) ⌝ }
-    ensures { λ r. ⌜ r ≡ Said·marked (first ∷ second ∷ []) (drop at (now (listing .entry))) ⌝ }
+    ensures { λ r. ⌜ r ≡ Said·marked mark (drop at (now (listing .entry))) ⌝ }
 {
-    if listing[at] != first {
+    if listing[at] != mark[0] {
         return false;
     }
-    listing[at + 1] == second
+    listing[at + 1] == mark[1]
 }
 
 // Whether a record of so many bytes with this mark stands at a place of the listing.
-fn stands(listing: &[u8], at: usize, size: usize, first: u8, second: u8) -> bool
+fn stands(listing: &[u8], at: usize, size: usize, mark: [u8; 2]) -> bool
     requires { ⌜ (at ≤ length (now listing)) × (markBytes ≤ size) ⌝ }
-    ensures { λ r. ⌜ r ≡ Said·stands (first ∷ second ∷ []) size (drop at (now (listing .entry))) ⌝ }
+    ensures { λ r. ⌜ r ≡ Said·stands mark size (drop at (now (listing .entry))) ⌝ }
 {
     if listing.len() - at < size {
         return false;
     }
-    marked(listing, at, first, second)
+    marked(listing, at, mark)
 }
 
 // Whether a service's record, of the ensemble with this id, stands at a place of the listing, which has room for one there.
@@ -48,7 +47,7 @@ fn service_fits(listing: &[u8], at: usize, ensemble: u8) -> bool
     requires { ⌜ at + svBytes ≤ length (now listing) ⌝ }
     ensures { λ r. ⌜ r ≡ svFits ensemble (drop at (now (listing .entry))) ⌝ }
 {
-    if !marked(listing, at, b'S', b'V') {
+    if !marked(listing, at, *b"SV") {
         return false;
     }
     let own = listing[at + 2];
@@ -90,7 +89,7 @@ fn ensemble_fits(listing: &[u8], at: usize) -> bool
     requires { ⌜ at ≤ length (now listing) ⌝ }
     ensures { λ r. ⌜ r ≡ enFits (drop at (now (listing .entry))) ⌝ }
 {
-    if !stands(listing, at, EN_BYTES, b'E', b'N') {
+    if !stands(listing, at, EN_BYTES, *b"EN") {
         return false;
     }
     if MOST_FLAGS < listing[at + 3] {
@@ -133,7 +132,7 @@ fn ensembles_length(listing: &[u8], from: usize, count: usize) -> usize
 pub fn chunk_length(listing: &[u8]) -> usize
     ensures { λ r. ⌜ r ≡ cond (listingFits (now (listing .entry))) (plainLength (listSaid (now (listing .entry)))) 0 ⌝ }
 {
-    if !stands(listing, 0, TS_BYTES, b'T', b'S') {
+    if !stands(listing, 0, TS_BYTES, *b"TS") {
         return 0;
     }
     ensembles_length(listing, TS_BYTES, listing[4] as usize)

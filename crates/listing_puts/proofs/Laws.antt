@@ -8,12 +8,12 @@ use borrow.Author.Tests.{eq-eqb, ne-eqb}
 use lib.ListN.{length, getD, drop, set, length-append, length-drop}
 use lib.Seq.{getD-drop, drop-drop, sets}
 use Rattle.octets.proofs.Laws.{getD-there, word-there, high-word, low-word}
-use Rattle.octets.proofs.Stores.{stores, stored, sets-append}
-use Rattle.octets.specs.Word.{word, high, low}
+use Rattle.octets.proofs.Stores.{stores, sets-append, sets-behind, behind-mark}
+use Rattle.octets.specs.Word.{word, high, low, wordBytes}
 use Rattle.meaning.specs.declared.Checked.the-variants.{Fine}
 use Rattle.meaning.specs.Sizes.{ensembleBytes, serviceBytes, tsBytes, enBytes, svBytes}
 use Rattle.meaning.specs.Lists.{Service, known}
-use Rattle.meaning.specs.Listing.{svRecord, tsRecord, enRecord, euRecord, ensembleListing, listing}
+use Rattle.meaning.specs.Listing.{markTS, markEN, markEU, markSV, svRecord, tsRecord, enRecord, euRecord, ensembleListing, listing}
 use Rattle.meaning.specs.Reading.{ensemblesChecks, servicesIn, servicesRoom, inside, past, serviceAt, servicesAt, knownAt, unknownAt, ensembleAt, ensemblesAt, eIn, sIn, streamIn, countIn, afterHeader, listIn}
 use Rattle.meaning.proofs.Checks.{ensemble-passes}
 use Rattle.meaning.proofs.Lengths.{length-servicesAt, length-ensemblesAt, length-records}
@@ -21,8 +21,8 @@ use Rattle.chunk_checks.proofs.Laws.{version-at, services-at, inside-at}
 
 -- ---- the records, as the code stores their bytes
 
-pub service-stored : (xs l : List ℕ) (at ensemble to : ℕ) → getD xs (at + 1) 0 < 256 → let third = getD xs (at + 2) 0 in stores (set l to 0x53) to 1 (0x56 ∷ ensemble ∷ getD xs at 0 ∷ getD xs (at + 1) 0 ∷ third / 8 % 4 ∷ third / 2 % 4 ∷ third % 2 ∷ []) ≡ sets l to (svRecord ensemble (serviceAt (drop at xs)))
-service-stored xs l at ensemble to byte =
+pub service-stored : (xs l m : List ℕ) (at ensemble to : ℕ) → getD xs (at + 1) 0 < 256 → m ≡ sets l to markSV → let third = getD xs (at + 2) 0 in stores m to 2 (ensemble ∷ getD xs at 0 ∷ getD xs (at + 1) 0 ∷ third / 8 % 4 ∷ third / 2 % 4 ∷ third % 2 ∷ []) ≡ sets l to (svRecord ensemble (serviceAt (drop at xs)))
+service-stored xs l m at ensemble to byte put =
     let a : ℕ = getD xs at 0 in
     let b : ℕ = getD xs (at + 1) 0 in
     let t : ℕ = getD xs (at + 2) 0 in
@@ -30,18 +30,19 @@ service-stored xs l at ensemble to byte =
     let first : a ≡ high (word (getD (drop at xs) 0 0) (getD (drop at xs) 1 0)) = sym (high-word a b byte) ∙ ap high id in
     let second : b ≡ low (word (getD (drop at xs) 0 0) (getD (drop at xs) 1 0)) = sym (low-word a b byte) ∙ ap low id in
     let third : t ≡ getD (drop at xs) 2 0 = sym (getD-drop at xs 2 0) in
-    stored 0x53 (0x56 ∷ ensemble ∷ a ∷ b ∷ t / 8 % 4 ∷ t / 2 % 4 ∷ t % 2 ∷ []) l to
-    ∙ (λ i. sets l to (0x53 ∷ 0x56 ∷ ensemble ∷ first i ∷ second i ∷ third i / 8 % 4 ∷ third i / 2 % 4 ∷ third i % 2 ∷ []))
+    behind-mark markSV (ensemble ∷ a ∷ b ∷ t / 8 % 4 ∷ t / 2 % 4 ∷ t % 2 ∷ []) l m to put
+    ∙ (λ i. sets l to (markSV ++ (ensemble ∷ first i ∷ second i ∷ third i / 8 % 4 ∷ third i / 2 % 4 ∷ third i % 2 ∷ [])))
 
-pub unknown-stored : (xs l : List ℕ) (at to : ℕ) → stores (set l to 0x45) to 1 (0x55 ∷ getD xs at 0 ∷ getD xs (at + 1) 0 % 32 ∷ []) ≡ sets l to (euRecord (unknownAt (drop at xs)))
-unknown-stored xs l at to =
+pub unknown-stored : (xs l m : List ℕ) (at to : ℕ) → m ≡ sets l to markEU → stores m to 2 (getD xs at 0 ∷ getD xs (at + 1) 0 % 32 ∷ []) ≡ sets l to (euRecord (unknownAt (drop at xs)))
+unknown-stored xs l m at to put =
     let id = sym (getD-there xs at) in
     let version = sym (version-at xs at 0 0) in
-    stored 0x45 (0x55 ∷ getD xs at 0 ∷ getD xs (at + 1) 0 % 32 ∷ []) l to ∙ (λ i. sets l to (0x45 ∷ 0x55 ∷ id i ∷ version i ∷ []))
+    behind-mark markEU (getD xs at 0 ∷ getD xs (at + 1) 0 % 32 ∷ []) l m to put
+    ∙ (λ i. sets l to (markEU ++ (id i ∷ version i ∷ [])))
 
-pub known-stored : (xs l m : List ℕ) (at to e s : ℕ) → let third = getD xs (at + 2) 0 in let count = getD xs (at + (3 + e)) 0 in m ≡ sets (stores (set l to 0x45) to 1 (0x4E ∷ getD xs at 0 ∷ third / 32 ∷ third % 32 ∷ count ∷ [])) (to + enBytes) (flatMap (svRecord (getD xs at 0)) (servicesAt s count (drop (at + (ensembleBytes + e)) xs))) → m ≡ sets l to (ensembleListing (known (knownAt e s (drop at xs))))
+pub known-stored : (xs l mark m : List ℕ) (at to e s : ℕ) → mark ≡ sets l to markEN → let third = getD xs (at + 2) 0 in let count = getD xs (at + (3 + e)) 0 in m ≡ sets (stores mark to 2 (getD xs at 0 ∷ third / 32 ∷ third % 32 ∷ count ∷ [])) (to + enBytes) (flatMap (svRecord (getD xs at 0)) (servicesAt s count (drop (at + (ensembleBytes + e)) xs))) → m ≡ sets l to (ensembleListing (known (knownAt e s (drop at xs))))
 unfolding ensembleListing
-known-stored xs l m at to e s is =
+known-stored xs l mark m at to e s put is =
     let ys : List ℕ = drop at xs in
     let t : ℕ = getD ys 2 0 in
     let third : getD xs (at + 2) 0 ≡ t = sym (getD-drop at xs 2 0) in
@@ -55,8 +56,8 @@ known-stored xs l m at to e s is =
     let place = sym (inside-at xs at e s) in
     is
     ∙ ap (λ (o : List ℕ). sets o (to + enBytes) (flatMap (svRecord (getD xs at 0)) (servicesAt s (getD xs (at + (3 + e)) 0) (drop (at + (ensembleBytes + e)) xs))))
-    (stored 0x45 (0x4E ∷ getD xs at 0 ∷ getD xs (at + 2) 0 / 32 ∷ getD xs (at + 2) 0 % 32 ∷ getD xs (at + (3 + e)) 0 ∷ []) l to)
-    ∙ (λ i. sets (sets l to (0x45 ∷ 0x4E ∷ id i ∷ flags i ∷ third i % 32 ∷ count i ∷ [])) (to + enBytes) (flatMap (svRecord (id i)) (servicesAt s (number i) (place i))))
+    (behind-mark markEN (getD xs at 0 ∷ getD xs (at + 2) 0 / 32 ∷ getD xs (at + 2) 0 % 32 ∷ getD xs (at + (3 + e)) 0 ∷ []) l mark to put)
+    ∙ (λ i. sets (sets l to (markEN ++ (id i ∷ flags i ∷ third i % 32 ∷ count i ∷ []))) (to + enBytes) (flatMap (svRecord (id i)) (servicesAt s (number i) (place i))))
     ∙ sym (sets-append (enRecord (knownAt e s ys)) (flatMap (svRecord (getD ys 0 0)) own) l to)
 
 -- a known ensemble's records, by their lengths; and which sort an ensemble is, by the byte that the code looks at
@@ -166,14 +167,11 @@ length-listed xs = omega arith
 pub listed-length : (xs : List ℕ) (n : ℕ) → n ≡ tsBytes + length (flatMap ensembleListing (ensemblesAt (eIn xs) (sIn xs) (countIn xs) (afterHeader xs))) → n ≡ length (listing (listIn xs))
 listed-length xs n e = e ∙ sym (length-listed xs)
 
-pub listing-stored : (xs l m : List ℕ) (w hi lo : ℕ) → w ≡ streamIn xs → hi ≡ high w → lo ≡ low w → m ≡ sets (sets l 0 (0x54 ∷ 0x53 ∷ hi ∷ lo ∷ countIn xs ∷ [])) tsBytes (flatMap ensembleListing (ensemblesAt (eIn xs) (sIn xs) (countIn xs) (afterHeader xs))) → m ≡ sets l 0 (listing (listIn xs))
+pub listing-stored : (xs l mark id m : List ℕ) (w : ℕ) → w ≡ streamIn xs → mark ≡ sets l 0 markTS → id ≡ sets mark 2 (wordBytes w) → m ≡ sets (set id 4 (countIn xs)) tsBytes (flatMap ensembleListing (ensemblesAt (eIn xs) (sIn xs) (countIn xs) (afterHeader xs))) → m ≡ sets l 0 (listing (listIn xs))
 unfolding listing listIn
-listing-stored xs l m w hi lo e p q stored =
+listing-stored xs l mark id m w e put next stored =
     let rest : List ℕ = flatMap ensembleListing (ensemblesAt (eIn xs) (sIn xs) (countIn xs) (afterHeader xs)) in
-    let first = p ∙ ap high e in
-    let second = q ∙ ap low e in
     let count = sym (length-ensemblesAt (eIn xs) (sIn xs) (countIn xs) (afterHeader xs)) in
-    let ts : 0x54 ∷ 0x53 ∷ hi ∷ lo ∷ countIn xs ∷ [] ≡ tsRecord (listIn xs) = λ i. 0x54 ∷ 0x53 ∷ first i ∷ second i ∷ count i ∷ [] in
-    stored
-    ∙ ap (λ (t : List ℕ). sets (sets l 0 t) tsBytes rest) ts
-    ∙ sym (sets-append (tsRecord (listIn xs)) rest l 0)
+    let head = next ∙ sets-behind markTS (wordBytes w) l mark 0 put in
+    let ts = sets-behind (markTS ++ wordBytes w) (countIn xs ∷ []) l id 0 head ∙ (λ i. sets l 0 (markTS ++ wordBytes (e i) ++ (count i ∷ []))) in
+    stored ∙ sets-behind (tsRecord (listIn xs)) rest l (set id 4 (countIn xs)) 0 ts

@@ -25,8 +25,7 @@ fn write_service(chunk: &[u8], at: usize, ensemble: u8, out: &mut [u8], to: usiz
     let high = chunk[at];
     let low = chunk[at + 1];
     let third = chunk[at + 2];
-    out[to] = b'S';
-    out[to + 1] = b'V';
+    octets::put_mark(*b"SV", out, to);
     out[to + 2] = ensemble;
     out[to + 3] = high;
     out[to + 4] = low;
@@ -64,8 +63,7 @@ fn write_unknown(chunk: &[u8], at: usize, out: &mut [u8], to: usize)
     requires { ⌜ (at + ensembleBytes ≤ length (now chunk)) × (to + euBytes ≤ length (now out)) ⌝ }
     ensures { λ _. ⌜ now (out .exit) ≡ sets (now (out .entry)) to (euRecord (unknownAt (drop at (now (chunk .entry))))) ⌝ }
 {
-    out[to] = b'E';
-    out[to + 1] = b'U';
+    octets::put_mark(*b"EU", out, to);
     out[to + 2] = chunk[at];
     out[to + 3] = chunk[at + 1] % 32;
 }
@@ -80,8 +78,7 @@ fn write_known(chunk: &[u8], at: usize, e: usize, s: usize, out: &mut [u8], to: 
     let id = chunk[at];
     let third = chunk[at + 2];
     let services = chunk[at + (3 + e)];
-    out[to] = b'E';
-    out[to + 1] = b'N';
+    octets::put_mark(*b"EN", out, to);
     out[to + 2] = id;
     out[to + 3] = third / 32;
     out[to + 4] = third % 32;
@@ -154,10 +151,8 @@ pub fn write_listing(chunk: &[u8], out: &mut [u8]) -> usize
     let s = (second / 4 % 8) as usize;
     let stream = octets::word_of(chunk[2], chunk[3]);
     let count = chunk[4 + h];
-    out[0] = b'T';
-    out[1] = b'S';
-    out[2] = octets::high_of(stream);
-    out[3] = octets::low_of(stream);
+    octets::put_mark(*b"TS", out, 0);
+    octets::put_word(stream, out, 2);
     out[4] = count;
     write_ensembles(
         chunk,

@@ -1,3 +1,4 @@
+pub mod Explains
 pub mod Packed
 pub mod Steps
 pub mod Wraps

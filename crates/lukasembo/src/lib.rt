@@ -1,7 +1,11 @@
-// The reader, the writer, the tunnel's two and the guide's for programs in C: thin over the proved calls. include/lukasembo.h declares them.
+// The reader, the writer, the tunnel's two, the guide's and the explanations for programs in C: thin over the proved calls. include/lukasembo.h declares them.
+use explains::Explained;
+use explains::Field;
+use fields::Table;
 use guides::Answer;
 use guides::Gathering;
 use meaning::Read;
+use slots::Slot;
 use store::Next;
 use tunnel::Numbers;
 use tunnel::Unwrapped;
@@ -19,6 +23,8 @@ ghost use Rattle.store.specs.Store.{nextIn};
 ghost use Rattle.tunnel.specs.Unwrap.{unwrappedValues};
 ghost use Rattle.wrapper.specs.Wrap.{wrappedValues};
 ghost use Rattle.sections.specs.Reading.{nameCount};
+ghost use Rattle.explains.specs.Explaining.{chunkExplained, segmentExplained, gatheredExplained};
+ghost use Rattle.lukasembo.specs.Explains.{tableNumber, fieldNumber, slotIn, ExplainSays};
 ghost use Rattle.lukasembo.specs.Guides.{packedGuide, gatheringIn, guideLeft, packedName, GuideStepSays};
 ghost use Rattle.lukasembo.specs.Packed.{packedRead, packedWritten};
 ghost use Rattle.lukasembo.specs.Steps.{packedUnwrapped, numbersIn, packedNumbers, numbersLeft, packedNext, StepSays};
@@ -350,4 +356,101 @@ pub extern "C" fn lukasembo_name_place(section: &[u8], n: usize) -> u64
 {
     let place = sections::name_place(section, n);
     place.from as u64 + place.length as u64 * 0x10000
+}
+
+// ---- explanations
+
+// The number, the field and the offset as one number; the value.
+#[repr(C)]
+pub struct Explanation {
+    pub answer: u64,
+    pub value: u64,
+}
+
+fn table_number(table: Table) -> u8
+    ensures { λ r. ⌜ r ≡ tableNumber table ⌝ }
+    ensures { λ r. ⌜ r ≤ 0x40 ⌝ }
+{
+    match table {
+        Table::Chunk => 0x10,
+        Table::Ensemble => 0x20,
+        Table::Service => 0x30,
+        Table::Segment => 0x40,
+    }
+}
+
+fn field_number(field: Field) -> u16
+    ensures { λ r. ⌜ r ≡ fieldNumber field ⌝ }
+{
+    match field {
+        Field::Length => 1,
+        Field::Payload => 2,
+        Field::Row { table, row } => table_number(table) as u16 + row as u16,
+    }
+}
+
+fn pack_explained(explained: Explained) -> Explanation
+    ensures { λ r. ⌜ ExplainSays explained (r .answer) (r .value) ⌝ }
+{
+    match explained {
+        Explained::Nothing => explanation_of(0, 0),
+        Explained::Found {
+            number,
+            field,
+            at,
+            value,
+        } => {
+            let low = number as u64 + field_number(field) as u64 * 0x100;
+            explanation_of(low + at as u64 * 0x100000000, value as u64)
+        }
+        Explained::Spoiled => explanation_of(0x307, 0),
+    }
+}
+
+fn explanation_of(answer: u64, value: u64) -> Explanation
+    ensures { λ r. ⌜ (r .answer ≡ answer) × (r .value ≡ value) ⌝ }
+{
+    Explanation {
+        answer: answer,
+        value: value,
+    }
+}
+
+// A slot's numbers, as the caller has them.
+fn unpack_slot(packed: u64) -> Slot
+    ensures { λ r. ⌜ r ≡ slotIn packed ⌝ }
+{
+    Slot {
+        held: (packed % 0x10000) as u16,
+        last: (packed / 0x10000 % 0x100) as u8,
+        spoiled: packed / 0x1000000 != 0,
+    }
+}
+
+// Why the reader would refuse a chunk.
+#[no_mangle]
+pub extern "C" fn lukasembo_explain_chunk(chunk: &[u8]) -> Explanation
+    ensures { λ r. ⌜ ExplainSays (chunkExplained (now (chunk .entry))) (r .answer) (r .value) ⌝ }
+{
+    let explained = explains::explain_chunk(chunk);
+    pack_explained(explained)
+}
+
+// Why a segment would be refused for its own length or header.
+#[no_mangle]
+pub extern "C" fn lukasembo_explain_segment(segment: &[u8]) -> Explanation
+    ensures { λ r. ⌜ ExplainSays (segmentExplained (now (segment .entry))) (r .answer) (r .value) ⌝ }
+{
+    let explained = explains::explain_segment(segment);
+    pack_explained(explained)
+}
+
+// The same, or why the slot of its kind would refuse it.
+#[no_mangle]
+pub extern "C" fn lukasembo_explain_gathered(segment: &[u8], slot: u64, bytes: &[u8]) -> Explanation
+    ensures { λ r. ⌜ ExplainSays (gatheredExplained (slotIn slot) (now (bytes .entry)) (now (segment .entry))) (r .answer) (r .value) ⌝ }
+{
+    let numbers = unpack_slot(slot);
+    let explained = explains::explain_gathered(segment, numbers, bytes);
+    pack_explained(explained)
 }

@@ -1,9 +1,9 @@
 -- The bytes of the tables' rows, one row after the other: what `wire` makes of the fields. Assumes nothing.
-use mathlib.Core.Path.{_≡_, refl}
-use mathlib.Core.List.{List, [], _∷_, _++_, flatMap}
+use mathlib.Core.Path.{_≡_, refl, subst⁻¹}
+use mathlib.Core.List.{List, [], _∷_, _++_, flatMap, append-nil}
 use Prim.Native.Nat.{ℕ}
 use lib.ListN.{length}
-use Rattle.octets.specs.Bits.{field, Held}
+use Rattle.octets.specs.Bits.{Field, field, Held, run}
 use Rattle.octets.specs.Word.{wordBytes}
 use Rattle.octets.proofs.Laws.{packed, Makes, bytes-made, makes-append, makes-byte, makes-octet, makes-word, makes-run, makes-rows}
 use Rattle.meaning.specs.Layout.{ServiceRow, serviceFields, EnsembleRow, ensembleHead, ensembleFields, Chunk, chunkHead, chunkFields, wire}
@@ -49,7 +49,7 @@ service-makes v =
     makes-append (makes-word (v .id))
     (makes-append
     (makes-byte (field 3 (v .reserved) ∷ field 2 (v .multi) ∷ field 2 (v .status) ∷ field 1 (v .sp) ∷ []) refl)
-    (makes-run (v .extension)))
+    (subst⁻¹ (λ (gs : List Field). Makes gs (v .extension)) (append-nil (run (v .extension))) (makes-run (v .extension))))
 
 pub ensemble-front-makes : (e : EnsembleRow) → Makes (ensembleHead e) (ensembleFront e)
 unfolding ensembleHead ensembleFront

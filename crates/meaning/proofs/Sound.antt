@@ -55,7 +55,8 @@ service-held s zs b =
     let b0 = getD-byte zs 0 b in
     let b1 = getD-byte zs 1 b in
     let b2 = getD-byte zs 2 b in
-    each-join InWidth 5 (serviceFields (serviceRowAt s zs)) (omega arith) (bytes-take s (drop 3 zs) (bytes-drop 3 zs b))
+    let rest = bytes-take s (drop 3 zs) (bytes-drop 3 zs b) in
+    each-join InWidth 5 (serviceFields (serviceRowAt s zs)) (omega arith) (each-append InWidth (run (take s (drop 3 zs))) [] rest tt)
 
 service-written : (s : ℕ) (zs : List ℕ) → Bytes zs → serviceBytes + s ≤ length zs → serviceRow (serviceRowAt s zs) ++ drop (serviceBytes + s) zs ≡ zs
 unfolding serviceRow serviceRowAt

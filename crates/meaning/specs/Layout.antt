@@ -6,8 +6,9 @@ use mathlib.Core.Bool.{cond}
 use mathlib.Core.List.{List, [], _∷_, _++_, map, flatMap}
 use lib.Dec.{eqb}
 use lib.ListN.{length}
-use Rattle.octets.specs.Bits.{Field, field, run, bytesOf, Held}
+use Rattle.octets.specs.Bits.{Field, run, bytesOf, Held}
 use Rattle.octets.specs.Each.{Each}
+use Rattle.octets.specs.Tables.{Row, row, byteRun, one, filled}
 use Rattle.meaning.specs.declared.Kind.{Kind}
 use Rattle.meaning.specs.Sizes.{longestChunk}
 use Rattle.meaning.specs.Lists.{Service, Known, Unknown, Ensemble, known, unknown, FicList, kindOf}
@@ -22,14 +23,18 @@ pub record ServiceRow : Type 0 where
   pub sp : ℕ
   pub extension : List ℕ
 
+abbrev pub serviceTable : List Row
+serviceTable =
+    row "MH_service_id" 16
+    ∷ row "reserved" 3
+    ∷ row "multi_ensemble_service" 2
+    ∷ row "MH_service_status" 2
+    ∷ row "SP_indicator" 1
+    ∷ byteRun "MH_service_loop_extension_byte"
+    ∷ []
+
 unfoldable pub serviceFields : ServiceRow → List Field
-serviceFields v =
-    field 16 (v .id)  -- MH_service_id
-    ∷ field 3 (v .reserved)  -- reserved
-    ∷ field 2 (v .multi)  -- multi_ensemble_service
-    ∷ field 2 (v .status)  -- MH_service_status
-    ∷ field 1 (v .sp)  -- SP_indicator
-    ∷ run (v .extension)  -- MH_service_loop_extension_byte
+serviceFields v = filled serviceTable (one (v .id) ∷ one (v .reserved) ∷ one (v .multi) ∷ one (v .status) ∷ one (v .sp) ∷ v .extension ∷ [])
 
 -- ---- the outer loop of Table 6.6
 
@@ -45,17 +50,32 @@ pub record EnsembleRow : Type 0 where
   pub services : List ServiceRow
 
 -- before its services
+abbrev pub ensembleTable : List Row
+ensembleTable =
+    row "ensemble_id" 8
+    ∷ row "reserved" 3
+    ∷ row "ensemble_protocol_version" 5
+    ∷ row "SLT_ensemble_indicator" 1
+    ∷ row "GAT_ensemble_indicator" 1
+    ∷ row "EAT_ensemble_indicator" 1
+    ∷ row "MH_service_signaling_channel_version" 5
+    ∷ byteRun "ensemble_loop_header_extension_byte"
+    ∷ row "num_MH_services" 8
+    ∷ []
+
 unfoldable pub ensembleHead : EnsembleRow → List Field
 ensembleHead e =
-    field 8 (e .id)  -- ensemble_id
-    ∷ field 3 (e .reserved)  -- reserved
-    ∷ field 5 (e .version)  -- ensemble_protocol_version
-    ∷ field 1 (e .slt)  -- SLT_ensemble_indicator
-    ∷ field 1 (e .gat)  -- GAT_ensemble_indicator
-    ∷ field 1 (e .eat)  -- EAT_ensemble_indicator
-    ∷ field 5 (e .channel)  -- MH_service_signaling_channel_version
-    ∷ run (e .extension)  -- ensemble_loop_header_extension_byte
-    ++ (field 8 (length (e .services)) ∷ [])  -- num_MH_services
+    filled ensembleTable
+    (one (e .id)
+    ∷ one (e .reserved)
+    ∷ one (e .version)
+    ∷ one (e .slt)
+    ∷ one (e .gat)
+    ∷ one (e .eat)
+    ∷ one (e .channel)
+    ∷ e .extension
+    ∷ one (length (e .services))
+    ∷ [])
 
 unfoldable pub ensembleFields : EnsembleRow → List Field
 ensembleFields e = ensembleHead e ++ flatMap serviceFields (e .services)
@@ -77,18 +97,34 @@ pub record Chunk : Type 0 where
   pub stuffing : List ℕ
 
 -- Table 6.5
+abbrev pub chunkTable : List Row
+chunkTable =
+    row "FIC_chunk_major_protocol_version" 2
+    ∷ row "FIC_chunk_minor_protocol_version" 3
+    ∷ row "FIC_chunk_header_extension_length" 3
+    ∷ row "ensemble_loop_header_extension_length" 3
+    ∷ row "MH_service_loop_extension_length" 3
+    ∷ row "reserved" 1
+    ∷ row "current_next_indicator" 1
+    ∷ row "transport_stream_id" 16
+    ∷ byteRun "header_extension_byte"
+    ∷ row "num_ensembles" 8
+    ∷ []
+
 unfoldable pub chunkHead : Chunk → List Field
 chunkHead c =
-    field 2 (c .major)  -- FIC_chunk_major_protocol_version
-    ∷ field 3 (c .minor)  -- FIC_chunk_minor_protocol_version
-    ∷ field 3 (c .h)  -- FIC_chunk_header_extension_length
-    ∷ field 3 (c .e)  -- ensemble_loop_header_extension_length
-    ∷ field 3 (c .s)  -- MH_service_loop_extension_length
-    ∷ field 1 (c .reserved)  -- reserved
-    ∷ field 1 (c .current)  -- current_next_indicator
-    ∷ field 16 (c .stream)  -- transport_stream_id
-    ∷ run (c .extension)  -- header_extension_byte
-    ++ (field 8 (length (c .ensembles)) ∷ [])  -- num_ensembles
+    filled chunkTable
+    (one (c .major)
+    ∷ one (c .minor)
+    ∷ one (c .h)
+    ∷ one (c .e)
+    ∷ one (c .s)
+    ∷ one (c .reserved)
+    ∷ one (c .current)
+    ∷ one (c .stream)
+    ∷ c .extension
+    ∷ one (length (c .ensembles))
+    ∷ [])
 
 unfoldable pub chunkFields : Chunk → List Field
 chunkFields c = chunkHead c ++ (flatMap ensembleFields (c .ensembles) ++ run (c .stuffing))  -- FIC_chunk_stuffing

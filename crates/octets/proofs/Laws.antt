@@ -1,9 +1,9 @@
 -- Laws of fields and bytes, each over the widths. Assumes nothing.
 use mathlib.Core.Path.{_≡_, refl, sym, ap, ap₂, _∙_}
-use mathlib.Core.Bool.{Bool, true, false, _||_, and-eq-true-iff}
+use mathlib.Core.Bool.{Bool, true, false, cond, _||_, and-eq-true-iff}
 use mathlib.Core.List.{List, [], _∷_, _++_, map, flatMap, append-assoc, append-nil}
 use Prim.Native.Nat.{ℕ, zero, suc, _+_, _*_, _/_, _%_, _^_, _≤_, _<_}
-use native.Mathlib.Nat.{mod-eq-of-lt, mod-one, add-zero, zero-add, suc-add, add-comm, add-assoc, mul-le-mul-right, lt-of-lt-of-le, pow-suc}
+use native.Mathlib.Nat.{mod-eq-of-lt, mod-one, add-zero, zero-add, suc-add, add-comm, add-assoc, zero-mul, suc-mul, mul-le-mul-right, lt-of-lt-of-le, pow-suc}
 use native.Mathlib.Numerals.{one-add}
 use native.Mathlib.Omega.{arith}
 use borrow.Author.Tests.{eq-eqb, eqb-true}
@@ -22,6 +22,11 @@ use Rattle.octets.specs.Word.{word, high, low, wordBytes}
 pub either : {P : Type 0} (t : Bool) → (t ≡ true → P) → (t ≡ false → P) → P
 either true a b = a refl
 either false a b = b refl
+
+-- what holds of both holds of the one that a test chooses
+pub cond-both : {A : Type 0} (P : A → Type 0) (t : Bool) {a b : A} → P a → P b → P (cond t a b)
+cond-both P true p q = p
+cond-both P false p q = q
 
 -- a test that passes n passes it still where n is added
 pub test-again : (test : ℕ → Bool) (n m : ℕ) → test n ≡ true → test m ≡ eqb m n || test m
@@ -193,7 +198,7 @@ bytes-all [] h = tt
 bytes-all (x ∷ xs) h = (h 0, bytes-all xs (λ i. h (suc i)))
 
 -- a wide field's bits are those of its parts
-bits-split : (j k v : ℕ) → bits (j + k) v ≡ bits j (v / 2 ^ k) ++ bits k v
+pub bits-split : (j k v : ℕ) → bits (j + k) v ≡ bits j (v / 2 ^ k) ++ bits k v
 unfolding bits
 bits-split zero k v = ap (λ (n : ℕ). bits n v) (zero-add k)
 bits-split (suc j) k v =
@@ -353,9 +358,12 @@ pub width-append : (gs fs : List Field) → width (gs ++ fs) ≡ width gs + widt
 width-append [] fs = sym (zero-add (width fs))
 width-append (field w v ∷ gs) fs = ap (λ (n : ℕ). w + n) (width-append gs fs) ∙ sym (add-assoc w (width gs) (width fs))
 
+pub width-each : (w : ℕ) (xs : List ℕ) → width (map (field w) xs) ≡ length xs * w
+width-each w [] = sym (zero-mul w)
+width-each w (x ∷ xs) = ap (λ (n : ℕ). w + n) (width-each w xs) ∙ add-comm w (length xs * w) ∙ sym (suc-mul (length xs) w)
+
 pub width-run : (xs : List ℕ) → width (run xs) ≡ length xs * 8
-width-run [] = refl
-width-run (x ∷ xs) = ap (λ (n : ℕ). 8 + n) (width-run xs) ∙ omega arith
+width-run xs = width-each 8 xs
 
 -- ---- what fields make are bytes: at most eight bits make one
 

@@ -1,3 +1,4 @@
 pub mod Laws
 pub mod Stores
 pub mod Sets
+pub mod Tables

@@ -28,9 +28,19 @@ sets-append (v ∷ vs) ws l i =
     sets-append vs ws (set l i v) (suc i)
     ∙ ap (λ (n : ℕ). sets (sets l i (v ∷ vs)) n ws) (suc-add i (length vs) ∙ sym (add-suc i (length vs)))
 
--- two stores, and a run of them behind
-pub mark-stored : (v w : ℕ) (ws l : List ℕ) (at : ℕ) → sets (set (set l at v) (at + 1) w) (at + 2) ws ≡ sets l at (v ∷ w ∷ ws)
-mark-stored v w ws l at = ap (λ (k : List ℕ). sets k (at + 2) ws) (stored v (w ∷ []) l at) ∙ sym (sets-append (v ∷ w ∷ []) ws l at)
+pub sets-behind : (vs ws l m : List ℕ) (i : ℕ) → m ≡ sets l i vs → sets m (i + length vs) ws ≡ sets l i (vs ++ ws)
+sets-behind vs ws l m i put = ap (λ (k : List ℕ). sets k (i + length vs) ws) put ∙ sym (sets-append vs ws l i)
+
+-- a mark put, and a run of stores behind it
+pub behind-mark : (mark vs l m : List ℕ) (to : ℕ) → m ≡ sets l to mark → stores m to (length mark) vs ≡ sets l to (mark ++ vs)
+behind-mark mark vs l m to put = stores-sets vs m to (length mark) ∙ sets-behind mark vs l m to put
+
+-- two bytes, one by one
+pub two-bytes : (xs : List ℕ) → length xs ≡ 2 → xs ≡ getD xs 0 0 ∷ getD xs 1 0 ∷ []
+two-bytes [] h = absurd (omega arith)
+two-bytes (x ∷ []) h = absurd (omega arith)
+two-bytes (x ∷ y ∷ []) h = refl
+two-bytes (x ∷ y ∷ z ∷ xs) h = absurd (omega arith)
 
 -- it leaves what is before it and what is after it, and stands where it was put
 pub take-sets : (vs l : List ℕ) (i n : ℕ) → n ≤ i → take n (sets l i vs) ≡ take n l

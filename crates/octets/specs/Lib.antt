@@ -4,3 +4,4 @@ pub mod Word
 pub mod Same
 pub mod Checks
 pub mod Sets
+pub mod Tables

@@ -1,4 +1,4 @@
-// Two-byte numbers, big-endian: the whole project takes them apart and puts them together here.
+// Two-byte numbers, big-endian, and two-byte marks: the whole project takes the ones apart and puts both here.
 ghost use mathlib.Core.Path.{_≡_};
 ghost use Prim.Native.Nat.{_+_, _≤_};
 ghost use lib.ListN.{length};
@@ -33,4 +33,13 @@ pub fn put_word(w: u16, out: &mut [u8], at: usize)
 {
     out[at] = high_of(w);
     out[at + 1] = low_of(w);
+}
+
+// Puts a record's mark at a place.
+pub fn put_mark(mark: [u8; 2], out: &mut [u8], at: usize)
+    requires { ⌜ at + 2 ≤ length (now out) ⌝ }
+    ensures { λ _. ⌜ now (out .exit) ≡ sets (now (out .entry)) at mark ⌝ }
+{
+    out[at] = mark[0];
+    out[at + 1] = mark[1];
 }

@@ -7,12 +7,13 @@ use Prim.Native.Nat.{ℕ, zero, suc, _+_, _-_, _≤_, _<_}
 use native.Mathlib.Omega.{arith}
 use borrow.Author.Tests.{eqb-true, eqb-false, ltb-true, ltb-false, leb-true, eq-eqb, ne-eqb, lt-ltb, le-ltb, le-leb, lt-leb}
 use lib.Dec.{eqb, ltb, leb}
-use lib.ListN.{length, getD, set, take, drop, length-drop}
+use lib.ListN.{length, getD, take, drop, length-drop}
 use lib.Seq.{getD-take, getD-drop, length-take-le, take-all, sets}
 use Rattle.octets.specs.Checks.{check}
 use Rattle.octets.specs.Word.{word, wordBytes}
-use Rattle.octets.proofs.Stores.{mark-stored}
+use Rattle.octets.proofs.Stores.{sets-behind}
 use Rattle.octets.proofs.Laws.{either, getD-there}
+use Rattle.text.specs.Text.{text}
 use Rattle.packets.specs.declared.Start.{Start}
 use Rattle.packets.specs.declared.Start.the-variants.{Running, Whole, Fault}
 use Rattle.packets.specs.Packets.{shortestPacket, longestPacket, withinLimits, versionOf, ipVersion, totalLength, tellingBytes, Carried, isCarried, startBy, startOf}
@@ -20,8 +21,8 @@ use Rattle.packets.specs.Stored.{storedHead}
 
 -- ---- the head of a stored packet, as the code stores it
 
-pub head-stored : (l : List ℕ) (at n : ℕ) (l′ : List ℕ) → l′ ≡ sets (set (set l at 73) (at + 1) 80) (at + 2) (wordBytes n) → l′ ≡ sets l at (storedHead n)
-head-stored l at n l′ is = is ∙ mark-stored 73 80 (wordBytes n) l at
+pub head-stored : (l : List ℕ) (at n : ℕ) (m l′ : List ℕ) → m ≡ sets l at (text "IP") → l′ ≡ sets m (at + 2) (wordBytes n) → l′ ≡ sets l at (storedHead n)
+head-stored l at n m l′ put is = is ∙ sets-behind (text "IP") (wordBytes n) l m at put
 
 -- ---- a length within the limits, or not
 

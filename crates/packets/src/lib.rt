@@ -86,7 +86,6 @@ pub fn put_head(n: usize, store: &mut [u8], at: usize)
     requires { ⌜ (n ≤ longestPacket) × (at + storedHeadBytes ≤ length (now store)) ⌝ }
     ensures { λ _. ⌜ now (store .exit) ≡ sets (now (store .entry)) at (storedHead n) ⌝ }
 {
-    store[at] = b'I';
-    store[at + 1] = b'P';
+    octets::put_mark(*b"IP", store, at);
     octets::put_word(n as u16, store, at + 2);
 }

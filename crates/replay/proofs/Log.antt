@@ -85,13 +85,13 @@ next-ready s r = left-ready s (callOf s r)
 
 -- ---- a record's lines have room
 
-length-shown : (k : Kind) (s : State) → length (shownIn k s) ≤ longestListing
+pub length-shown : (k : Kind) (s : State) → length (shownIn k s) ≤ longestListing
 unfolding shown
 length-shown k s =
     let n : ℕ = shownLength k (s .desk) (s .first) (s .second) in
     omega (arith, length-take n (lentFor k (s .desk .notes .swapped) (s .first) (s .second)), shown-small k (s .desk) (s .first) (s .second))
 
-few : (d : Desk) (xs first second : List ℕ) (a : Answer) → segmentAfter d xs first second .answer ≡ a → Countable a
+pub few : (d : Desk) (xs first second : List ℕ) (a : Answer) → segmentAfter d xs first second .answer ≡ a → Countable a
 few d xs first second (Missing n) is = omega (arith, missing-few d xs first second n is)
 few d xs first second (NewList k n) is = tt
 few d xs first second (Refused f) is = omega (arith, refusal-small d xs first second f is)

@@ -21,6 +21,19 @@ ghost use Rattle.desk.specs.Calls.{state, Ready};
 ghost use Rattle.lines.specs.Lines.{frameLines, gatheringLine, answerLines, longestLines};
 ghost use Rattle.replay.specs.Log.{logForm, logProgram, CallSays, FillSays};
 
+// The marks of a log's records, and the numbers that their two bytes say.
+const FR: [u8; 2] = *b"FR";
+
+const GA: [u8; 2] = *b"GA";
+
+const SG: [u8; 2] = *b"SG";
+
+pub const FRAME_MARK: u16 = FR[0] as u16 * 256 + FR[1] as u16;
+
+pub const GATHERING_MARK: u16 = GA[0] as u16 * 256 + GA[1] as u16;
+
+const SEGMENT_MARK: u16 = SG[0] as u16 * 256 + SG[1] as u16;
+
 // After some records: the desk's numbers, the next place of the log, and the next place of the output.
 pub struct Filled {
     pub notes: Notes,
@@ -29,19 +42,26 @@ pub struct Filled {
 }
 
 // After a record: the desk's numbers, and the next place of the output.
-struct Turned {
-    notes: Notes,
-    to: usize,
+pub struct Turned {
+    pub notes: Notes,
+    pub to: usize,
+}
+
+// After a segment: the same, and the answer to it.
+pub struct Answered {
+    pub notes: Notes,
+    pub to: usize,
+    pub answer: Answer,
 }
 
 // What a mark of a log tells.
-fn form_of(mark: u16) -> Form
+pub fn form_of(mark: u16) -> Form
     ensures { λ r. ⌜ r ≡ logForm mark ⌝ }
 {
     match mark {
-        0x5347 => Form::Fixed(SEGMENT_BYTES),
-        0x4741 => Form::Fixed(0),
-        0x4652 => Form::Fixed(0),
+        SEGMENT_MARK => Form::Fixed(SEGMENT_BYTES),
+        GATHERING_MARK => Form::Fixed(0),
+        FRAME_MARK => Form::Fixed(0),
         _ => Form::Foreign,
     }
 }
@@ -92,8 +112,8 @@ fn gathering(notes: Notes, bytes: &mut [u8], out: &mut [u8], to: usize) -> Turne
     }
 }
 
-// A segment: the desk driven, and the lines of its answer.
-fn segment(
+// A segment: the desk driven, and the lines of its answer. Internal, as `call`: `explaining` calls them.
+pub fn segment(
     notes: Notes,
     bytes: &mut [u8],
     first: &mut [u8],
@@ -101,10 +121,11 @@ fn segment(
     seg: &[u8],
     out: &mut [u8],
     to: usize,
-) -> Turned
+) -> Answered
     requires { ⌜ Ready (state (Desks·desk notes (now bytes)) (now first) (now second)) ⌝ }
     requires { ⌜ to + longestLines ≤ length (now out) ⌝ }
     ensures { λ r. ⌜ (Desks·desk (r .notes) (now (bytes .exit)) ≡ segmentAfter (Desks·desk notes (now (bytes .entry))) (now (seg .entry)) (now (first .entry)) (now (second .entry)) .desk) × (now (first .exit) ≡ segmentAfter (Desks·desk notes (now (bytes .entry))) (now (seg .entry)) (now (first .entry)) (now (second .entry)) .first) × (now (second .exit) ≡ segmentAfter (Desks·desk notes (now (bytes .entry))) (now (seg .entry)) (now (first .entry)) (now (second .entry)) .second) ⌝ }
+    ensures { λ r. ⌜ r .answer ≡ segmentAfter (Desks·desk notes (now (bytes .entry))) (now (seg .entry)) (now (first .entry)) (now (second .entry)) .answer ⌝ }
     ensures { λ r. ⌜ Put (answerLines (segmentAfter (Desks·desk notes (now (bytes .entry))) (now (seg .entry)) (now (first .entry)) (now (second .entry)) .answer) (shown (segmentKind (now (seg .entry))) (Desks·desk (r .notes) (now (bytes .exit))) (now (first .exit)) (now (second .exit)))) (now (out .entry)) to (now (out .exit)) (r .to) ⌝ }
 {
     let driven = desk::drive(notes, bytes, seg, first, second);
@@ -114,30 +135,33 @@ fn segment(
         Answer::NewList { kind, length } => {
             let listing = notes::part(kind, after.swapped, length, first, second);
             let end = lines::put_list(kind, listing, out, to);
-            Turned {
+            Answered {
                 notes: after,
                 to: end,
+                answer: answer,
             }
         }
         Answer::Missing(n) => {
             let end = lines::put_missing(n, out, to);
-            Turned {
+            Answered {
                 notes: after,
                 to: end,
+                answer: answer,
             }
         }
         Answer::Refused(refusal) => {
             let end = lines::put_refused(refusal, out, to);
-            Turned {
+            Answered {
                 notes: after,
                 to: end,
+                answer: answer,
             }
         }
     }
 }
 
 // The call that a record with this mark makes, and its lines.
-fn call(
+pub fn call(
     notes: Notes,
     bytes: &mut [u8],
     first: &mut [u8],
@@ -152,9 +176,16 @@ fn call(
     ensures { λ r. ⌜ CallSays (state (Desks·desk notes (now (bytes .entry))) (now (first .entry)) (now (second .entry))) mark (now (content .entry)) (state (Desks·desk (r .notes) (now (bytes .exit))) (now (first .exit)) (now (second .exit))) (now (out .entry)) to (now (out .exit)) (r .to) ⌝ }
 {
     match mark {
-        0x4652 => frame(notes, bytes, first, second, out, to),
-        0x4741 => gathering(notes, bytes, out, to),
-        _ => segment(notes, bytes, first, second, content, out, to),
+        FRAME_MARK => frame(notes, bytes, first, second, out, to),
+        GATHERING_MARK => gathering(notes, bytes, out, to),
+        _ => {
+            let a = segment(notes, bytes, first, second, content, out, to);
+            let after = a.notes;
+            Turned {
+                notes: after,
+                to: a.to,
+            }
+        }
     }
 }
 
@@ -193,8 +224,8 @@ fn turn(
     }
 }
 
-// Where no whole record stands, nothing happens.
-fn idle(notes: Notes, at: usize, to: usize) -> Filled
+// Where no whole record stands, nothing happens. Internal.
+pub fn idle(notes: Notes, at: usize, to: usize) -> Filled
     ensures { λ r. ⌜ (r .notes ≡ notes) × (r .read ≡ at) × (r .wrote ≡ to) ⌝ }
 {
     Filled {

@@ -5,7 +5,8 @@ use mathlib.Core.Bool.{not}
 use mathlib.Core.List.{List, [], _∷_, _++_}
 use lib.Dec.{ltb, eqb}
 use lib.ListN.{length, getD, take, drop}
-use Rattle.octets.specs.Bits.{Field, field, run, bytesOf}
+use Rattle.octets.specs.Bits.{Field, run, bytesOf}
+use Rattle.octets.specs.Tables.{Row, row, one, filled}
 use Rattle.octets.specs.Checks.{check}
 use Rattle.meaning.specs.declared.Kind.{Kind}
 use Rattle.meaning.specs.declared.Refusal.the-variants.{SegmentLength, SegmentType, ErrorBit, OtherMajor, NumberAboveLast}
@@ -43,17 +44,30 @@ pub record Head : Type 0 where
   pub number : ℕ
   pub last : ℕ
 
+abbrev pub segmentTable : List Row
+segmentTable =
+    row "FIC_segment_type" 2
+    ∷ row "reserved" 1
+    ∷ row "wake_up_indicator" 1
+    ∷ row "FIC_chunk_major_protocol_version" 2
+    ∷ row "current_next_indicator" 1
+    ∷ row "error_indicator" 1
+    ∷ row "FIC_segment_num" 4
+    ∷ row "FIC_last_segment_num" 4
+    ∷ []
+
 unfoldable pub headFields : Head → List Field
 headFields h =
-    field 2 (h .sort)  -- FIC_segment_type
-    ∷ field 1 (h .reserved)  -- reserved
-    ∷ field 1 (h .wake)  -- wake_up_indicator
-    ∷ field 2 (h .major)  -- FIC_chunk_major_protocol_version
-    ∷ field 1 (h .current)  -- current_next_indicator
-    ∷ field 1 (h .error)  -- error_indicator
-    ∷ field 4 (h .number)  -- FIC_segment_num
-    ∷ field 4 (h .last)  -- FIC_last_segment_num
-    ∷ []
+    filled segmentTable
+    (one (h .sort)
+    ∷ one (h .reserved)
+    ∷ one (h .wake)
+    ∷ one (h .major)
+    ∷ one (h .current)
+    ∷ one (h .error)
+    ∷ one (h .number)
+    ∷ one (h .last)
+    ∷ [])
 
 -- the bytes of a segment with this header and payload
 unfoldable pub segment : Head → List ℕ → List ℕ

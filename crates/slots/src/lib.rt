@@ -51,7 +51,8 @@ fn bit(place: u8) -> u16
     1u16 << place
 }
 
-fn holds(held: u16, place: u8) -> bool
+// Whether a place is held. Internal: `explains` calls it too.
+pub fn holds(held: u16, place: u8) -> bool
     requires { ⌜ place < mostSegments ⌝ }
     ensures { λ r. ⌜ r ≡ Sets·holds held place ⌝ }
 {

@@ -22,12 +22,17 @@ pub enum Next {
     Broken,
 }
 
+// The mark of a stored packet, and the number that its two bytes say.
+const IP: [u8; 2] = *b"IP";
+
+pub const PACKET_MARK: u16 = IP[0] as u16 * 256 + IP[1] as u16;
+
 // What a mark of a store tells.
 fn form_of(mark: u16) -> Form
     ensures { λ r. ⌜ r ≡ storeForm mark ⌝ }
 {
     match mark {
-        0x4950 => Form::Counted {
+        PACKET_MARK => Form::Counted {
             least: SHORTEST_PACKET,
             most: LONGEST_PACKET,
         },

@@ -1,13 +1,12 @@
 -- Laws of the log that is put, in the code's own terms: an output xs and a place in it, instead of what is left of the output. Assumes nothing.
 use mathlib.Core.Path.{_≡_, refl, sym, ap, ap₂, _∙_}
 use mathlib.Core.List.{List, [], _∷_, _++_, flatMap, append-assoc}
-use Prim.Native.Char.{code}
 use Prim.Native.Nat.{ℕ, zero, suc, _+_, _-_, _*_, _≤_, _<_}
 use native.Mathlib.Omega.{arith}
 use lib.ListN.{length, getD, take, drop, set, length-append, length-drop}
 use lib.Seq.{take-at, drop-at, drop-drop, getD-drop, getD-take, length-take-le, sets}
 use Rattle.octets.specs.Each.{Each}
-use Rattle.octets.proofs.Stores.{stored, sets-append, copy-next, copy-done}
+use Rattle.octets.proofs.Stores.{sets-append, copy-next, copy-done}
 use Rattle.text.specs.Text.{text}
 use Rattle.records.specs.Records.{markBytes}
 use Rattle.segments.specs.Segment.{segmentBytes}
@@ -17,12 +16,6 @@ use Rattle.typed.specs.Typed.{logOf, logPut}
 -- the segment at a place
 abbrev pub segmentAt : List ℕ → ℕ → List ℕ
 segmentAt xs from = take segmentBytes (drop from xs)
-
--- ---- a record: its mark, then its segment
-
-pub record-stored : (s l : List ℕ) (to : ℕ) → sets (set (set l to (code "S")) (to + 1) (code "G")) (to + markBytes) s ≡ sets l to (text "SG" ++ s)
-record-stored s l to =
-    ap (λ (t : List ℕ). sets t (to + markBytes) s) (stored (code "S") (text "G") l to) ∙ sym (sets-append (text "SG") s l to)
 
 module _ (xs : List ℕ) (from : ℕ) (room : from + segmentBytes ≤ length xs) where
   length-segmentAt : length (segmentAt xs from) ≡ segmentBytes

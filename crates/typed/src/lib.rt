@@ -79,8 +79,7 @@ fn put_record(segments: &[u8], from: usize, log: &mut [u8], to: usize)
     requires { ⌜ (from + segmentBytes ≤ length (now segments)) × (to + (markBytes + segmentBytes) ≤ length (now log)) ⌝ }
     ensures { λ _. ⌜ now (log .exit) ≡ sets (now (log .entry)) to (Text·text "SG" ++ take segmentBytes (drop from (now (segments .entry)))) ⌝ }
 {
-    log[to] = b'S';
-    log[to + 1] = b'G';
+    octets::put_mark(*b"SG", log, to);
     let start = to + MARK_BYTES;
     let mut i = 0;
     while i < SEGMENT_BYTES {

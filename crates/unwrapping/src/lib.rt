@@ -32,12 +32,17 @@ struct Told {
     told: usize,
 }
 
+// The mark of an outer packet, and the number that its two bytes say.
+const OP: [u8; 2] = *b"OP";
+
+const OUTER_MARK: u16 = OP[0] as u16 * 256 + OP[1] as u16;
+
 // What a mark of the file tells.
 fn form_of(mark: u16) -> Form
     ensures { λ r. ⌜ r ≡ outerForm mark ⌝ }
 {
     match mark {
-        0x4F50 => Form::Counted {
+        OUTER_MARK => Form::Counted {
             least: 0,
             most: 65535,
         },

@@ -4,23 +4,23 @@ use mathlib.Core.List.{List, [], _∷_, _++_, flatMap, append-assoc, append-nil}
 use Prim.Native.Nat.{ℕ, zero, suc, _+_, _*_, _-_, _/_, _≤_, _<_}
 use native.Mathlib.Nat.{add-zero, zero-mul, suc-mul, mul-div-cancel}
 use native.Mathlib.Omega.{arith}
-use lib.ListN.{length, set, take, drop, length-append, length-drop, take-append-drop}
+use lib.ListN.{length, take, drop, length-append, length-drop, take-append-drop}
 use lib.Seq.{length-take-le, take-at, drop-at, drop-drop, sets, length-sets}
 use Rattle.octets.specs.Each.{Each}
 use Rattle.octets.specs.Word.{wordBytes}
-use Rattle.octets.proofs.Stores.{mark-stored, sets-append}
+use Rattle.octets.proofs.Stores.{sets-behind, sets-append}
 use Rattle.text.specs.Text.{text, Put}
 use Rattle.packets.specs.Stored.{line}
 use Rattle.wrapping.specs.Wrapping.{recordHeadBytes, outerRecord, outerRecords, cutInto}
 
 -- ---- an outer packet
 
-pub outer-stored : (outers : List ℕ) (from n : ℕ) (out : List ℕ) (to : ℕ) → from + n ≤ length outers → (head out′ : List ℕ) → head ≡ sets (set (set out to 79) (to + 1) 80) (to + 2) (wordBytes n) → out′ ≡ sets head (to + recordHeadBytes) (take n (drop from outers)) → out′ ≡ sets out to (outerRecord (take n (drop from outers)))
-outer-stored outers from n out to inside head out′ put is =
+pub outer-stored : (outers : List ℕ) (from n : ℕ) (out : List ℕ) (to : ℕ) → from + n ≤ length outers → (mark head out′ : List ℕ) → mark ≡ sets out to (text "OP") → head ≡ sets mark (to + 2) (wordBytes n) → out′ ≡ sets head (to + recordHeadBytes) (take n (drop from outers)) → out′ ≡ sets out to (outerRecord (take n (drop from outers)))
+outer-stored outers from n out to inside mark head out′ marked put is =
     let outer : List ℕ = take n (drop from outers) in
     let long : length outer ≡ n = length-take-le n (drop from outers) (omega (arith, length-drop from outers)) in
     is
-    ∙ ap (λ (l : List ℕ). sets l (to + recordHeadBytes) outer) (put ∙ mark-stored 79 80 (wordBytes n) out to)
+    ∙ ap (λ (l : List ℕ). sets l (to + recordHeadBytes) outer) (put ∙ sets-behind (text "OP") (wordBytes n) out mark to marked)
     ∙ sym (sets-append (text "OP" ++ wordBytes n) outer out to)
     ∙ ap (λ (m : ℕ). sets out to (text "OP" ++ (wordBytes m ++ outer))) (sym long)
 

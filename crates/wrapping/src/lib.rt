@@ -7,6 +7,7 @@ use records::Form;
 use records::LENGTH_BYTES;
 use records::MARK_BYTES;
 use rtp::HEADER_BYTES;
+use store::PACKET_MARK;
 use wrapper::Numbers;
 ghost use mathlib.Core.Path.{_≡_};
 ghost use Prim.Native.Nat.{_+_, _*_, _-_, _≤_};
@@ -44,8 +45,10 @@ pub const LONGEST_OUTPUT: usize = 4096;
 // The mark and the length before an outer packet.
 const RECORD_HEAD_BYTES: usize = 4;
 
-// TI
-const STAMP_MARK: u16 = 0x5449;
+// The mark of a timestamp, and the number that its two bytes say.
+const TI: [u8; 2] = *b"TI";
+
+const STAMP_MARK: u16 = TI[0] as u16 * 256 + TI[1] as u16;
 
 // ---- the word
 
@@ -90,8 +93,8 @@ fn form_of(mark: u16) -> Form
     ensures { λ r. ⌜ r ≡ wrapForm mark ⌝ }
 {
     match mark {
-        0x5449 => Form::Fixed(4),
-        0x4950 => Form::Counted {
+        STAMP_MARK => Form::Fixed(4),
+        PACKET_MARK => Form::Counted {
             least: SHORTEST_PACKET,
             most: LONGEST_PACKET,
         },
@@ -124,8 +127,7 @@ fn put_outer(outers: &[u8], from: usize, n: usize, out: &mut [u8], to: usize)
     requires { ⌜ (n ≤ 65535) × (from + n ≤ length (now outers)) × (to + (recordHeadBytes + n) ≤ length (now out)) ⌝ }
     ensures { λ _. ⌜ now (out .exit) ≡ sets (now (out .entry)) to (outerRecord (take n (drop from (now (outers .entry))))) ⌝ }
 {
-    out[to] = b'O';
-    out[to + 1] = b'P';
+    octets::put_mark(*b"OP", out, to);
     octets::put_word(n as u16, out, to + 2);
     copies::put(out, to + RECORD_HEAD_BYTES, outers, from, n);
 }

@@ -1,4 +1,4 @@
--- `listing_puts::write_listing` meets its contract: its five stores are the stream's record, and the ensembles' records come after it. Assumes nothing.
+-- `listing_puts::write_listing` meets its contract: its mark, its word and its count are the stream's record, and the ensembles' records come after it. Assumes nothing.
 use native.Mathlib.Omega.{arith}
 use Prim.Native.Nat.{_+_, _%_}
 use mathlib.Core.Path.{_∙_}
@@ -41,49 +41,39 @@ add-count c = search needs
 shared-slice-read-count : tie.Need-shared-slice-read-count
 shared-slice-read-count c = omega (arith, header-passes (now (c .before .before .before .before .before .before .before .before .args .chunk)) (c .before .before .before .before .before .before .before .before .pre .0) .0 .fields)
 
+put-mark-requires : tie.Need-put-mark-requires
+put-mark-requires c κs = search needs
+
+put-word-requires : tie.Need-put-word-requires
+put-word-requires c κs = search needs
+
 slice-write-out : tie.Need-slice-write-out
 slice-write-out c = search needs
-
-slice-write-out-2 : tie.Need-slice-write-out-2
-slice-write-out-2 c = simp length-set (omega arith)
-
-high-of-requires : tie.Need-high-of-requires
-high-of-requires c κs = search needs
-
-slice-write-out-3 : tie.Need-slice-write-out-3
-slice-write-out-3 c = simp length-set (omega arith)
-
-low-of-requires : tie.Need-low-of-requires
-low-of-requires c κs = search needs
-
-slice-write-out-4 : tie.Need-slice-write-out-4
-slice-write-out-4 c = simp length-set (omega arith)
-
-slice-write-out-5 : tie.Need-slice-write-out-5
-slice-write-out-5 c = simp length-set (omega arith)
 
 add-write-ensembles : tie.Need-add-write-ensembles
 add-write-ensembles c = search needs
 
 cast-write-ensembles : tie.Need-cast-write-ensembles
-cast-write-ensembles c = omega (arith, c .before .before .shared-slice-known6 .given (4 + getD (now (c .before .before .before .before .before .before .before .before .before .before .args .chunk)) 0 0 % 8))
+cast-write-ensembles c = omega (arith, c .before .before .before .before .before .before .before .before .before .before .shared-slice-known6 .given (4 + getD (now (c .before .before .before .before .before .before .before .before .before .before .before .before .before .before .before .before .before .before .args .chunk)) 0 0 % 8))
 
 write-ensembles-requires : tie.Need-write-ensembles-requires
 write-ensembles-requires c κs =
-    let xs = now (c .before .before .before .before .before .before .before .before .before .before .before .args .chunk) in
-    let h = header-passes xs (c .before .before .before .before .before .before .before .before .before .before .before .pre .0) in (
-      (h .0 .fields, h .0 .longest, omega (arith, c .before .before .before .before .before .before .before .shared-slice-known3 .given 1), omega (arith, c .before .before .before .before .before .before .before .shared-slice-known3 .given 1)),
-      (h .1, simp length-set (omega (arith, c .before .before .before .before .before .before .before .before .before .before .before .pre .1, length-listed xs, listing-fits xs (c .before .before .before .before .before .before .before .before .before .before .before .pre .0)))),
+    let s = c .before .before .before .before .before .before .before .before .before .before .before .before .before .before .before .before .before .before .before in
+    let xs = now (s .args .chunk) in
+    let h = header-passes xs (s .pre .0) in (
+      (h .0 .fields, h .0 .longest, omega (arith, c .before .before .before .before .before .before .before .before .before .before .before .before .before .before .before .shared-slice-known3 .given 1), omega (arith, c .before .before .before .before .before .before .before .before .before .before .before .before .before .before .before .shared-slice-known3 .given 1)),
+      (h .1, simp length-set (omega (arith, s .pre .1, length-listed xs, listing-fits xs (s .pre .0)))),
     )
 
 same-length : tie.Need-same-length
-same-length c = c .before .before .write-ensembles .kept .1 .1 .1 .1 .1 .0 ∙ simp length-set
+same-length c = c .before .before .write-ensembles .kept .1 .1 .1 .1 .1 .0 ∙ simp length-set (omega arith)
 
 returns : tie.Need-returns
 returns c =
-    let xs = now (c .before .before .before .before .before .before .before .before .before .before .before .before .before .before .args .chunk) in (
+    let a = c .before .before .before .before .before .before .before .before .before .before .before .before .before .before .before .before .before .before .before .before .before .before .args in
+    let xs = now (a .chunk) in (
       listed-length xs _ (c .before .before .write-ensembles .ensures .0),
-      listing-stored xs (now (c .before .before .before .before .before .before .before .before .before .before .before .before .before .before .args .out)) _ _ _ _ (c .before .before .before .before .before .before .before .word-of .ensures) (c .before .before .before .before .before .high-of .ensures) (c .before .before .before .before .low-of .ensures) (c .before .before .write-ensembles .ensures .1),
+      listing-stored xs (now (a .out)) _ _ _ _ (c .before .before .before .before .before .before .before .before .before .before .before .before .before .before .before .word-of .ensures) (c .before .before .before .before .before .before .before .before .before .before .put-mark .ensures) (c .before .before .before .before .before .before .put-word .ensures) (c .before .before .write-ensembles .ensures .1),
     )
 
 pub write-listing-spec : {M : Type 1} → statement M
@@ -100,13 +90,9 @@ write-listing-spec =
     word-of-requires
     add-count
     shared-slice-read-count
+    put-mark-requires
+    put-word-requires
     slice-write-out
-    slice-write-out-2
-    high-of-requires
-    slice-write-out-3
-    low-of-requires
-    slice-write-out-4
-    slice-write-out-5
     add-write-ensembles
     cast-write-ensembles
     write-ensembles-requires

@@ -1,4 +1,4 @@
--- `listing_puts::write_service` meets its contract: its eight stores are the service's record. Assumes nothing.
+-- `listing_puts::write_service` meets its contract: its mark and the six stores behind it are the service's record. Assumes nothing.
 use native.Mathlib.Omega.{arith}
 use lib.ListN.{length-set}
 use denote.Ref.{now}
@@ -22,58 +22,52 @@ add-third c = search needs
 shared-slice-read-third : tie.Need-shared-slice-read-third
 shared-slice-read-third c = search needs
 
-slice-write-out : tie.Need-slice-write-out
-slice-write-out c = search needs
+put-mark-requires : tie.Need-put-mark-requires
+put-mark-requires c κs = search needs
 
 add-out : tie.Need-add-out
 add-out c = search needs
 
-slice-write-out-2 : tie.Need-slice-write-out-2
-slice-write-out-2 c = simp length-set (omega arith)
+slice-write-out : tie.Need-slice-write-out
+slice-write-out c = search needs
 
 add-out-2 : tie.Need-add-out-2
 add-out-2 c = search needs
 
-slice-write-out-3 : tie.Need-slice-write-out-3
-slice-write-out-3 c = simp length-set (omega arith)
+slice-write-out-2 : tie.Need-slice-write-out-2
+slice-write-out-2 c = simp length-set (omega arith)
 
 add-out-3 : tie.Need-add-out-3
 add-out-3 c = search needs
 
-slice-write-out-4 : tie.Need-slice-write-out-4
-slice-write-out-4 c = simp length-set (omega arith)
+slice-write-out-3 : tie.Need-slice-write-out-3
+slice-write-out-3 c = simp length-set (omega arith)
 
 add-out-4 : tie.Need-add-out-4
 add-out-4 c = search needs
 
-slice-write-out-5 : tie.Need-slice-write-out-5
-slice-write-out-5 c = simp length-set (omega arith)
+slice-write-out-4 : tie.Need-slice-write-out-4
+slice-write-out-4 c = simp length-set (omega arith)
 
 add-out-5 : tie.Need-add-out-5
 add-out-5 c = search needs
 
-slice-write-out-6 : tie.Need-slice-write-out-6
-slice-write-out-6 c = simp length-set (omega arith)
+slice-write-out-5 : tie.Need-slice-write-out-5
+slice-write-out-5 c = simp length-set (omega arith)
 
 add-out-6 : tie.Need-add-out-6
 add-out-6 c = search needs
 
-slice-write-out-7 : tie.Need-slice-write-out-7
-slice-write-out-7 c = simp length-set (omega arith)
-
-add-out-7 : tie.Need-add-out-7
-add-out-7 c = search needs
-
-slice-write-out-8 : tie.Need-slice-write-out-8
-slice-write-out-8 c = simp length-set (omega arith)
+slice-write-out-6 : tie.Need-slice-write-out-6
+slice-write-out-6 c = simp length-set (omega arith)
 
 same-length : tie.Need-same-length
-same-length c = simp length-set
+same-length c = search needs
 
 returns : tie.Need-returns
 returns c =
-    let a = c .before .before .before .args in
-    service-stored (now (a .chunk)) (now (a .out)) (a .at) (a .ensemble) (a .to) (c .shared-slice-known3 .given _ .fits)
+    let a = c .before .before .before .before .before .before .before .before .before .before .before .args in
+    service-stored (now (a .chunk)) (now (a .out)) _ (a .at) (a .ensemble) (a .to) (c .before .before .before .before .before .before .before .shared-slice-known3 .given _ .fits) (c .before .before .put-mark .ensures)
 
 pub write-service-spec : {M : Type 1} → statement M
 write-service-spec =
@@ -84,20 +78,18 @@ write-service-spec =
     shared-slice-read-low
     add-third
     shared-slice-read-third
-    slice-write-out
+    put-mark-requires
     add-out
-    slice-write-out-2
+    slice-write-out
     add-out-2
-    slice-write-out-3
+    slice-write-out-2
     add-out-3
-    slice-write-out-4
+    slice-write-out-3
     add-out-4
-    slice-write-out-5
+    slice-write-out-4
     add-out-5
-    slice-write-out-6
+    slice-write-out-5
     add-out-6
-    slice-write-out-7
-    add-out-7
-    slice-write-out-8
+    slice-write-out-6
     same-length
     returns)

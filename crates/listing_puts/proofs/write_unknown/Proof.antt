@@ -1,4 +1,4 @@
--- `listing_puts::write_unknown` meets its contract: its four stores are the record. Assumes nothing.
+-- `listing_puts::write_unknown` meets its contract: its mark and the two stores behind it are the record. Assumes nothing.
 use native.Mathlib.Omega.{arith}
 use lib.ListN.{length-set}
 use denote.Ref.{now}
@@ -7,57 +7,49 @@ use borrow.Author.Needs.{needs}
 use Rattle.listing_puts.proofs.write_unknown.Statement.{statement}
 use Rattle.listing_puts.proofs.write_unknown.Tie as tie
 
-slice-write-out : tie.Need-slice-write-out
-slice-write-out c = search needs
-
-add-out : tie.Need-add-out
-add-out c = search needs
-
-slice-write-out-2 : tie.Need-slice-write-out-2
-slice-write-out-2 c = simp length-set (omega arith)
+put-mark-requires : tie.Need-put-mark-requires
+put-mark-requires c κs = search needs
 
 shared-slice-read-out : tie.Need-shared-slice-read-out
 shared-slice-read-out c = search needs
 
+add-out : tie.Need-add-out
+add-out c = search needs
+
+slice-write-out : tie.Need-slice-write-out
+slice-write-out c = search needs
+
 add-out-2 : tie.Need-add-out-2
 add-out-2 c = search needs
-
-slice-write-out-3 : tie.Need-slice-write-out-3
-slice-write-out-3 c = simp length-set (omega arith)
-
-add-out-3 : tie.Need-add-out-3
-add-out-3 c = search needs
 
 shared-slice-read-out-2 : tie.Need-shared-slice-read-out-2
 shared-slice-read-out-2 c = search needs
 
-add-out-4 : tie.Need-add-out-4
-add-out-4 c = search needs
+add-out-3 : tie.Need-add-out-3
+add-out-3 c = search needs
 
-slice-write-out-4 : tie.Need-slice-write-out-4
-slice-write-out-4 c = simp length-set (omega arith)
+slice-write-out-2 : tie.Need-slice-write-out-2
+slice-write-out-2 c = simp length-set (omega arith)
 
 same-length : tie.Need-same-length
-same-length c = simp length-set
+same-length c = search needs
 
 returns : tie.Need-returns
 returns c =
-    let a = c .before .before .args in
-    unknown-stored (now (a .chunk)) (now (a .out)) (a .at) (a .to)
+    let a = c .before .before .before .before .before .before .before .before .before .before .args in
+    unknown-stored (now (a .chunk)) (now (a .out)) _ (a .at) (a .to) (c .before .before .before .before .put-mark .ensures)
 
 pub write-unknown-spec : {M : Type 1} → statement M
 write-unknown-spec =
     tie.close
     (tie.spec
-    slice-write-out
-    add-out
-    slice-write-out-2
+    put-mark-requires
     shared-slice-read-out
+    add-out
+    slice-write-out
     add-out-2
-    slice-write-out-3
-    add-out-3
     shared-slice-read-out-2
-    add-out-4
-    slice-write-out-4
+    add-out-3
+    slice-write-out-2
     same-length
     returns)

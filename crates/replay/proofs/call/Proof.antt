@@ -53,7 +53,7 @@ same-length-10 : tie.Need-same-length-10
 same-length-10 c = search needs
 
 returns-3 : tie.Need-returns-3
-returns-3 c = let a = c .before .before .before .before .before .before .before .before .before .before .before .before .before .before .before .before .before .before .before .args in call-segment (state (desk (a .notes) (now (a .bytes))) (now (a .first)) (now (a .second))) (a .mark) (now (a .content)) (now (a .out)) _ (a .to) _ (c .before .before .before .before .before .before .before .before .before .before .before .before .before .match .rest .0 .1) (c .before .before .before .before .before .before .before .before .before .before .before .before .before .match .rest .1) _ _ _ (c .before .before .before .before .before .before .before .before .segment .ensures .0) (c .before .before .before .before .before .before .before .before .segment .ensures .1)
+returns-3 c = let a = c .before .before .before .before .before .before .before .before .before .before .before .before .before .before .before .before .before .before .before .before .args in call-segment (state (desk (a .notes) (now (a .bytes))) (now (a .first)) (now (a .second))) (a .mark) (now (a .content)) (now (a .out)) _ (a .to) _ (c .before .before .before .before .before .before .before .before .before .before .before .before .before .before .match .rest .0 .1) (c .before .before .before .before .before .before .before .before .before .before .before .before .before .before .match .rest .1) _ _ _ (c .before .before .before .before .before .before .before .before .before .segment .ensures .0) (c .before .before .before .before .before .before .before .before .before .segment .ensures .1 .1)
 
 pub call-spec : {M : Type 1} → statement M
 call-spec =

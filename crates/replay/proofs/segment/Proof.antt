@@ -46,7 +46,17 @@ same-length-4 : tie.Need-same-length-4
 same-length-4 c = search needs
 
 returns : tie.Need-returns
-returns c = (left-is (desk (c .before .before .before .before .before .before .before .before .before .before .before .before .before .before .before .before .before .before .before .before .before .before .before .before .before .before .args .notes) (now (c .before .before .before .before .before .before .before .before .before .before .before .before .before .before .before .before .before .before .before .before .before .before .before .before .before .before .args .bytes))) (now (c .before .before .before .before .before .before .before .before .before .before .before .before .before .before .before .before .before .before .before .before .before .before .before .before .before .before .args .seg)) (now (c .before .before .before .before .before .before .before .before .before .before .before .before .before .before .before .before .before .before .before .before .before .before .before .before .before .before .args .first)) (now (c .before .before .before .before .before .before .before .before .before .before .before .before .before .before .before .before .before .before .before .before .before .before .before .before .before .before .args .second)) _ (c .before .before .before .before .before .before .before .before .before .before .before .before .before .before .before .before .before .drive .ensures), put-same (now (c .before .before .before .before .before .before .before .before .before .before .before .before .before .before .before .before .before .before .before .before .before .before .before .before .before .before .args .out)) (c .before .before .before .before .before .before .before .before .before .before .before .before .before .before .before .before .before .before .before .before .before .before .before .before .before .before .args .to) (listed-same (desk (c .before .before .before .before .before .before .before .before .before .before .before .before .before .before .before .before .before .before .before .before .before .before .before .before .before .before .args .notes) (now (c .before .before .before .before .before .before .before .before .before .before .before .before .before .before .before .before .before .before .before .before .before .before .before .before .before .before .args .bytes))) (now (c .before .before .before .before .before .before .before .before .before .before .before .before .before .before .before .before .before .before .before .before .before .before .before .before .before .before .args .seg)) (now (c .before .before .before .before .before .before .before .before .before .before .before .before .before .before .before .before .before .before .before .before .before .before .before .before .before .before .args .first)) (now (c .before .before .before .before .before .before .before .before .before .before .before .before .before .before .before .before .before .before .before .before .before .before .before .before .before .before .args .second)) _ (c .before .before .before .before .before .before .before .before .before .before .before .before .before .before .before .before .before .drive .ensures) _ _ (c .before .before .before .before .before .before .before .before .answer .given .1) _ (c .before .before .before .before .part .ensures .0)) (c .before .before .put-list .ensures))
+returns c =
+    let a = c .before .before .before .before .before .before .before .before .before .before .before .before .before .before .before .before .before .before .before .before .before .before .before .before .before .before .args in
+    let drives = c .before .before .before .before .before .before .before .before .before .before .before .before .before .before .before .before .before .drive .ensures in
+    let before = desk (a .notes) (now (a .bytes)) in
+    let told = c .before .before .before .before .before .before .before .before .answer .given .1 in (
+      left-is before (now (a .seg)) (now (a .first)) (now (a .second)) _ drives,
+      (
+        sym told ∙ answer-is before (now (a .seg)) (now (a .first)) (now (a .second)) _ drives,
+        put-same (now (a .out)) (a .to) (listed-same before (now (a .seg)) (now (a .first)) (now (a .second)) _ drives _ _ told _ (c .before .before .before .before .part .ensures .0)) (c .before .before .put-list .ensures),
+      ),
+    )
 
 same-length-5 : tie.Need-same-length-5
 same-length-5 c = search needs
@@ -65,7 +75,9 @@ returns-2 c =
     let a = c .before .before .before .before .before .before .before .before .before .before .before .before .before .before .before .before .before .before .before .before .before .before .before .args in
     let drives = c .before .before .before .before .before .before .before .before .before .before .before .before .before .before .drive .ensures in
     let before = desk (a .notes) (now (a .bytes)) in
-    (left-is before (now (a .seg)) (now (a .first)) (now (a .second)) _ drives, put-same (now (a .out)) (a .to) (missing-lines _ _ _ (sym (answer-is before (now (a .seg)) (now (a .first)) (now (a .second)) _ drives) ∙ c .before .before .before .before .before .answer2 .given .1)) (c .before .before .put-missing .ensures))
+    let told = c .before .before .before .before .before .answer2 .given .1 in
+    let is = answer-is before (now (a .seg)) (now (a .first)) (now (a .second)) _ drives in
+    (left-is before (now (a .seg)) (now (a .first)) (now (a .second)) _ drives, (sym told ∙ is, put-same (now (a .out)) (a .to) (missing-lines _ _ _ (sym is ∙ told)) (c .before .before .put-missing .ensures)))
 
 same-length-9 : tie.Need-same-length-9
 same-length-9 c = search needs
@@ -84,7 +96,9 @@ returns-3 c =
     let a = c .before .before .before .before .before .before .before .before .before .before .before .before .before .before .before .before .before .before .before .before .before .before .before .args in
     let drives = c .before .before .before .before .before .before .before .before .before .before .before .before .before .before .drive .ensures in
     let before = desk (a .notes) (now (a .bytes)) in
-    (left-is before (now (a .seg)) (now (a .first)) (now (a .second)) _ drives, put-same (now (a .out)) (a .to) (refused-lines _ _ _ (sym (answer-is before (now (a .seg)) (now (a .first)) (now (a .second)) _ drives) ∙ c .before .before .before .before .before .answer3 .given .1)) (c .before .before .put-refused .ensures))
+    let told = c .before .before .before .before .before .answer3 .given .1 in
+    let is = answer-is before (now (a .seg)) (now (a .first)) (now (a .second)) _ drives in
+    (left-is before (now (a .seg)) (now (a .first)) (now (a .second)) _ drives, (sym told ∙ is, put-same (now (a .out)) (a .to) (refused-lines _ _ _ (sym is ∙ told)) (c .before .before .put-refused .ensures)))
 
 pub segment-spec : {M : Type 1} → statement M
 segment-spec =

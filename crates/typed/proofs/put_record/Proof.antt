@@ -1,16 +1,18 @@
--- `typed::put_record` meets its contract: its two stores are the mark. The loop's invariant: what is left of the segment, put here, makes the
+-- `typed::put_record` meets its contract: the mark is put first. The loop's invariant: what is left of the segment, put here, makes the
 -- whole; the measure is what is left. Assumes nothing.
-use Prim.Native.Char.{code}
-use Prim.Native.Nat.{ℕ, _+_, _-_, _≤_}
-use mathlib.Core.Path.{_≡_, refl, sym, ap, _∙_}
+use Prim.Native.Nat.{_+_, _-_, _≤_}
+use mathlib.Core.Path.{_≡_, refl, sym, _∙_}
 use native.Mathlib.Nat.{add-zero}
-use lib.ListN.{length, drop, set, length-set}
+use lib.ListN.{length, drop, length-set}
 use lib.Seq.{sets}
 use denote.Ref.{now}
+use Rattle.octets.proofs.Stores.{sets-behind}
+use Rattle.text.specs.Text.{text}
 use Rattle.records.specs.Records.{markBytes}
 use Rattle.segments.specs.Segment.{segmentBytes}
-use Rattle.typed.proofs.Logs.{segmentAt, record-stored, segment-next, segment-done}
+use Rattle.typed.proofs.Logs.{segmentAt, segment-next, segment-done}
 use native.Mathlib.Omega.{arith}
+use borrow.Author.Needs.{needs}
 use Rattle.typed.proofs.put_record.Statement.{statement}
 use Rattle.typed.proofs.put_record.Tie as tie
 
@@ -24,38 +26,26 @@ Inv-loop segments from log₀ to start i₀ log i =
 abbrev μ-loop : tie.MeasureT-loop
 μ-loop segments from log₀ to start i₀ log i = segmentBytes - i
 
-slice-write-log : tie.Need-slice-write-log Inv-loop μ-loop
-slice-write-log c = omega arith
-
-add-log : tie.Need-add-log Inv-loop μ-loop
-add-log c = omega arith
-
-slice-write-log-2 : tie.Need-slice-write-log-2 Inv-loop μ-loop
-slice-write-log-2 c = simp length-set (omega arith)
+put-mark-requires : tie.Need-put-mark-requires Inv-loop μ-loop
+put-mark-requires c κs = search needs
 
 add-start : tie.Need-add-start Inv-loop μ-loop
 add-start c = omega arith
 
 loop-holds : tie.Need-loop-holds Inv-loop μ-loop
-loop-holds c =
-    let a = c .args in (
-      omega arith,
-      simp length-set (omega arith),
-      refl,
-      ap (λ (k : ℕ). sets (set (set (now (a .log)) (a .to) (code "S")) (a .to + 1) (code "G")) k (segmentAt (now (a .segments)) (a .from))) (add-zero (a .to + markBytes)),
-    )
+loop-holds c = (omega arith, omega arith, refl, rw (add-zero (c .before .before .before .before .before .before .before .before .args .to + markBytes)) refl)
 
-add-log-2 : tie.Need-add-log-2 Inv-loop μ-loop
-add-log-2 c = omega arith
+add-log : tie.Need-add-log Inv-loop μ-loop
+add-log c = omega arith
 
 shared-slice-read-log : tie.Need-shared-slice-read-log Inv-loop μ-loop
 shared-slice-read-log c = omega arith
 
-add-log-3 : tie.Need-add-log-3 Inv-loop μ-loop
-add-log-3 c = omega arith
+add-log-2 : tie.Need-add-log-2 Inv-loop μ-loop
+add-log-2 c = omega arith
 
-slice-write-log-3 : tie.Need-slice-write-log-3 Inv-loop μ-loop
-slice-write-log-3 c = omega arith
+slice-write-log : tie.Need-slice-write-log Inv-loop μ-loop
+slice-write-log c = omega arith
 
 add-i : tie.Need-add-i Inv-loop μ-loop
 add-i c = omega arith
@@ -65,20 +55,20 @@ loop-less c = omega arith
 
 loop-again : tie.Need-loop-again Inv-loop μ-loop
 loop-again c =
-    let a = c .before .before .before .args in
+    let a = c .before .before .before .before .before .before .before .before .before .before .before .args in
     let l = c .before .before .loop in
-    (omega arith, simp length-set (l .inv .1), length-set (l .log) _ _ ∙ l .inv .2, segment-next (now (a .segments)) (a .from) (c .before .before .before .pre .0) (l .log) _ (l .i) (c .before .loop-test .taken) ∙ l .inv .3)
+    (omega arith, simp length-set (l .inv .1), length-set (l .log) _ _ ∙ l .inv .2, segment-next (now (a .segments)) (a .from) (c .before .before .before .before .before .before .before .before .before .before .before .pre .0) (l .log) _ (l .i) (c .before .loop-test .taken) ∙ l .inv .3)
 
 same-length : tie.Need-same-length Inv-loop μ-loop
-same-length c = c .before .loop .inv .2 ∙ simp length-set
+same-length c = omega arith
 
 returns : tie.Need-returns Inv-loop μ-loop
 returns c =
-    let a = c .before .before .args in
+    let a = c .before .before .before .before .before .before .before .before .before .before .args in
     let l = c .before .loop in
-    sym (segment-done (now (a .segments)) (a .from) (c .before .before .pre .0) (l .log) _ (l .i) (c .loop-test .left))
+    sym (segment-done (now (a .segments)) (a .from) (c .before .before .before .before .before .before .before .before .before .before .pre .0) (l .log) _ (l .i) (c .loop-test .left))
     ∙ l .inv .3
-    ∙ record-stored (segmentAt (now (a .segments)) (a .from)) (now (a .log)) (a .to)
+    ∙ sets-behind (text "SG") (segmentAt (now (a .segments)) (a .from)) (now (a .log)) _ (a .to) (c .before .before .before .before .put-mark .ensures)
 
 pub put-record-spec : {M : Type 1} → statement M
 put-record-spec =
@@ -86,15 +76,13 @@ put-record-spec =
     (tie.spec
     Inv-loop
     μ-loop
-    slice-write-log
-    add-log
-    slice-write-log-2
+    put-mark-requires
     add-start
     loop-holds
-    add-log-2
+    add-log
     shared-slice-read-log
-    add-log-3
-    slice-write-log-3
+    add-log-2
+    slice-write-log
     add-i
     loop-less
     loop-again

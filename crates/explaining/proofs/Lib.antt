@@ -1,0 +1,4 @@
+pub mod Segments
+pub mod Laws
+pub mod Fits
+pub mod Under
