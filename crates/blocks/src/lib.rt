@@ -1,4 +1,6 @@
 // A file of records is read through a block: what is unread is kept, and more is read behind it.
+#![tactic(auto)]
+
 ghost use Rattle.std.specs.Prelude.{◌≡◌, ◌⊎◌, ◌+◌, ◌-◌, ◌≤◌, ◌<◌, length, take, drop};
 ghost use Rattle.blocks.specs.Blocks.{step_after, Refilled, Advances, Proceeds, stops_at, Concludes, Settles};
 ghost use Rattle.records.specs.Records.{longest_last};

@@ -1,4 +1,6 @@
 // The reader's checks on a chunk, that write nothing.
+#![tactic(auto)]
+
 ghost use Rattle.std.specs.Prelude.{◌≡◌, ◌+◌, ◌*◌, ◌≤◌, ◌<◌, length, drop};
 ghost use Rattle.meaning.specs.Sizes.{longest_chunk};
 ghost use Rattle.meaning.specs.Reading.{checks, ensembles_checks};

@@ -1,4 +1,6 @@
 // The desk: a slot for each kind, the lengths of the two listings, and which of the two lent buffers serves this frame.
+#![tactic(auto)]
+
 ghost use Rattle.std.specs.Prelude.{◌≡◌, true, ◌++◌, ◌+◌, ◌≤◌, length};
 ghost use Rattle.meaning.specs.Sizes.{longest_chunk, longest_listing};
 ghost use Rattle.segments.specs.Segment.{segment_checks};

@@ -1,4 +1,6 @@
 // Runs the desk's calls by value on document 01's samples, on each of its numbers and on desks that are not well formed.
+#![tactic(auto)]
+
 mod bench;
 
 use bench::Bench;

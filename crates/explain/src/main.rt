@@ -1,4 +1,6 @@
 // Prints what a recorded log says, each refusal with the field at fault, and what is wrong with a chunk: explain < FILE
+#![tactic(auto)]
+
 use libc::{STDIN_FILENO, STDOUT_FILENO};
 
 fn main() {

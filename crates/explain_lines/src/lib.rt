@@ -1,4 +1,6 @@
 // The lines of explanations and of chunks by themselves, put at a place of an output; each answers the place after them.
+#![tactic(auto)]
+
 ghost use Rattle.std.specs.Prelude.{◌+◌, ◌≤◌, length};
 ghost use Rattle.text.specs.Text.{Put};
 ghost use Rattle.lines.specs.Lines.{longest_lines};

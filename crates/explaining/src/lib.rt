@@ -1,5 +1,7 @@
 // A log replayed on a desk with each refusal explained under its line, and chunks by themselves: its records, and the lines that are printed for each. `fill` goes
 // through a block of such a file.
+#![tactic(auto)]
+
 ghost use Rattle.std.specs.Prelude.{◌≡◌, true, [], ◌++◌, ◌+◌, ◌≤◌, ◌<◌, length, drop};
 ghost use Rattle.text.specs.Text.{Put};
 ghost use Rattle.records.specs.Records.{length_bytes, mark_of, entry_in};

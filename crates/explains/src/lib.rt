@@ -1,4 +1,6 @@
 // Why a chunk or a segment is refused: the field at fault, its offset in bits, and the value found there.
+#![tactic(auto)]
+
 ghost use Rattle.std.specs.Prelude.{◌≡◌, ◌+◌, ◌*◌, ◌≤◌, ◌<◌, length, get_or, take, drop};
 ghost use Rattle.meaning.specs.Sizes.{longest_chunk};
 ghost use Rattle.meaning.specs.Numbers.{checked_number};

@@ -1,4 +1,6 @@
 // The names of the standard's fields, put at a place of an output; each function answers the place after it. Internal: `explain_lines` calls `put_name`.
+#![tactic(auto)]
+
 ghost use Rattle.std.specs.Prelude.{◌+◌, ◌≤◌, length};
 ghost use Rattle.text.specs.Text.{Put};
 ghost use Rattle.field_names.specs.Names.{name_of};

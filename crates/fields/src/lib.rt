@@ -1,5 +1,7 @@
 // The standard's tables as widths in bits: where a field begins, which is the first that does not fit whole, and what number stands in it. Internal, all of it:
 // `explains` calls it (docs/DECISIONS.md, 7).
+#![tactic(auto)]
+
 ghost use Rattle.std.specs.Prelude.{◌≡◌, ◌+◌, ◌*◌, ◌≤◌, ◌<◌, length, get_or};
 ghost use Rattle.octets.specs.Bits.{laid, run};
 ghost use Rattle.octets.specs.Tables.{before, first_not_whole, number_at};

@@ -1,4 +1,6 @@
 // Prints who supplies the guide, section by section: guide < FILE
+#![tactic(auto)]
+
 use libc::{STDIN_FILENO, STDOUT_FILENO};
 
 fn main() {

@@ -1,4 +1,6 @@
 // The lines of the program `guide`, put at a place of an output; each function answers the place after what it has put.
+#![tactic(auto)]
+
 ghost use Rattle.std.specs.Prelude.{◌≡◌, ◌++◌, ◌+◌, ◌≤◌, ◌<◌, length, get_or};
 ghost use Rattle.text.specs.Text.{numbered, Put};
 ghost use Rattle.sections.specs.declared.Standing.TheVariants.{InForce};

@@ -1,5 +1,7 @@
 // Prints the lines of each stored file of sections that the arguments name, and the status, twice: read through a block of one of the longest records, and through a
 // large one.
+#![tactic(auto)]
+
 use libc::STDOUT_FILENO;
 
 fn run_slowly(name: &[u8]) {

@@ -1,4 +1,6 @@
 // A file of sections from one descriptor, its lines to another, in blocks. What is printed is decided by `guiding`; here bytes are moved.
+#![tactic(auto)]
+
 ghost use Rattle.std.specs.Prelude.{T, ◌≤◌, length};
 ghost use Rattle.octets.specs.Checks.{among};
 ghost use Rattle.records.specs.Records.{entry_in};

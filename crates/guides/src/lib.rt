@@ -1,4 +1,6 @@
 // The guide's gathering: which sections of a table were read, and how many are missing.
+#![tactic(auto)]
+
 ghost use Rattle.std.specs.Prelude.{◌≡◌, false, ◌%◌, ◌^◌, ◌≤◌, ◌<◌};
 ghost use Rattle.std.specs.Int.Count.{ones};
 ghost use Rattle.guides.specs.Gathering.{is_noted, noting, count_below, missing_of, empty_of, empty, values as Gathering·values, guide_values, begun_as, read_as, TellsSo, SectionSays};

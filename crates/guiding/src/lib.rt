@@ -1,4 +1,6 @@
 // A file of sections given to a gathering, record by record, and the lines that are printed for each. `fill` goes through a block of the file.
+#![tactic(auto)]
+
 ghost use Rattle.std.specs.Prelude.{◌≡◌, ◌+◌, ◌≤◌, length, drop};
 ghost use Rattle.records.specs.Records.{entry_in};
 ghost use Rattle.records.specs.Transcripts.{Turned as Transcripts-as-Turned};

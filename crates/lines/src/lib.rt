@@ -1,4 +1,6 @@
 // The log program's lines, put at a place of an output; each answers the place after them.
+#![tactic(auto)]
+
 ghost use Rattle.std.specs.Prelude.{◌+◌, ◌≤◌, length};
 ghost use Rattle.meaning.specs.Sizes.{longest_listing};
 ghost use Rattle.text.specs.Text.{Put};

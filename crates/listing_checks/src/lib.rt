@@ -1,4 +1,6 @@
 // The writer's checks on a listing, that write nothing.
+#![tactic(auto)]
+
 ghost use Rattle.std.specs.Prelude.{◌≡◌, cond, ◌+◌, ◌≤◌, length, drop};
 ghost use Rattle.records.specs.Records.{mark_bytes};
 ghost use Rattle.meaning.specs.Sizes.{chunk_header_bytes, sv_bytes};

@@ -1,4 +1,6 @@
 // Prints what a recorded log says, record by record: log < FILE
+#![tactic(auto)]
+
 use libc::{STDIN_FILENO, STDOUT_FILENO};
 
 fn main() {

@@ -1,4 +1,6 @@
 // Prints the transcript of each stored log that the arguments name, and the status, twice: read in blocks of one record, and in large ones.
+#![tactic(auto)]
+
 use libc::STDOUT_FILENO;
 
 fn run_slowly(name: &[u8]) {

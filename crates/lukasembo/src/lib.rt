@@ -1,4 +1,6 @@
 // The reader, the writer, the tunnel's two, the guide's and the explanations for programs in C: thin over the proved calls. include/lukasembo.h declares them.
+#![tactic(auto)]
+
 ghost use Rattle.std.specs.Prelude.{◌≡◌, ◌≤◌, ◌<◌, length, drop};
 ghost use Rattle.meaning.specs.Sizes.{longest_chunk, longest_listing};
 ghost use Rattle.meaning.specs.Lists.{kind_of};

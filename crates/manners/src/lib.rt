@@ -1,4 +1,6 @@
 // The manners of a program: what it does around its answers, where a read or a write fails, with words, and as it ends.
+#![tactic(auto)]
+
 ghost use Rattle.std.specs.Prelude.{◌≡◌, ◌<◌, length, take};
 ghost use Rattle.io.specs.Counts.{IsPrefixLen};
 ghost use Rattle.manners.specs.Manners.{came_of, bytes_in, sent_of, ended_by, status_of, Room};

@@ -1,5 +1,7 @@
 // The words that the whole project uses: the kinds, the refusals, the answers, and the sizes by name.
 
+#![tactic(auto)]
+
 ghost use Rattle.std.specs.Prelude.{◌≡◌};
 ghost use Rattle.meaning.specs.Lists.{kind_of, current_of};
 ghost use Rattle.meaning.specs.Numbers.{number_of, offset_of};

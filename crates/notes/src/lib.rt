@@ -1,4 +1,6 @@
 // The desk's numbers without its bytes, and the two lent buffers by their roles.
+#![tactic(auto)]
+
 ghost use Rattle.std.specs.Prelude.{◌≡◌, not, ◌||◌, ◌≤◌, take, length as List·length};
 ghost use Rattle.meaning.specs.Sizes.{longest_chunk};
 ghost use Rattle.slots.specs.Slots.{empty_slot};

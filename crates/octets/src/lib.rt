@@ -1,4 +1,6 @@
 // Two-byte numbers, big-endian, and two-byte marks: the whole project takes the ones apart and puts both here.
+#![tactic(auto)]
+
 ghost use Rattle.std.specs.Prelude.{◌≡◌, ◌+◌, ◌≤◌, length};
 ghost use Rattle.std.proofs.lemmas.List.Edits.{sets};
 ghost use Rattle.octets.specs.Word.{word, high, low, word_bytes};

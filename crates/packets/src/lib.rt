@@ -1,4 +1,6 @@
 // Inner packets: what some bytes are as the start of one; and the bytes before a packet that is stored.
+#![tactic(auto)]
+
 ghost use Rattle.std.specs.Prelude.{◌≡◌, ◌+◌, ◌≤◌, length, drop};
 ghost use Rattle.std.proofs.lemmas.List.Edits.{sets};
 ghost use Rattle.packets.specs.Packets.{longest_packet, is_carried, start_by, start_of};

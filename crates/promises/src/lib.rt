@@ -1,5 +1,7 @@
 // What each offered call says of its result, for any arguments: each function here has the call's contract, word for word, and only makes the
 // call. A call that said less, or that asked for something, would not be taken here. No `requires` stands on this page.
+#![tactic(auto)]
+
 ghost use Rattle.std.specs.Prelude.{◌≡◌, T, drop};
 ghost use Rattle.octets.specs.Checks.{among};
 ghost use Rattle.octets.specs.Word.{word, high, low};

@@ -1,4 +1,6 @@
 // The reader: a chunk in, the listing of its list out. All checks first, then all writing, so that a refusal writes nothing.
+#![tactic(auto)]
+
 ghost use Rattle.meaning.specs.Reading.{ReadSays};
 
 use meaning::{Checked, LONGEST_LISTING, Read, Refusal};

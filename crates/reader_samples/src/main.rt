@@ -1,5 +1,7 @@
 // Runs the reader on document 01's samples and on the longest and the narrowest cases, and prints a line for each: its name, the answer's
 // number and, where the chunk is accepted, its kind, minor edition and length, its listing, and whether the buffer past it is as it was.
+#![tactic(auto)]
+
 mod made;
 
 use made::Made;

@@ -1,4 +1,6 @@
 // Records with a mark: what stands at a place of a file of them.
+#![tactic(auto)]
+
 ghost use Rattle.std.specs.Prelude.{◌≡◌, ◌+◌, ◌≤◌, length, drop};
 ghost use Rattle.text.specs.Text.{Put};
 ghost use Rattle.records.specs.Records.{mark_bytes, mark_in, entry_of, entry_as, end_number, last_line, longest_last};

@@ -1,5 +1,7 @@
 // A recorded log replayed on a desk: its records, the call that each makes, and the lines that are printed for it. `fill` goes through a block of
 // a log.
+#![tactic(auto)]
+
 ghost use Rattle.std.specs.Prelude.{◌≡◌, true, ◌+◌, ◌≤◌, length, drop};
 ghost use Rattle.text.specs.Text.{Put};
 ghost use Rattle.records.specs.Records.{entry_in};

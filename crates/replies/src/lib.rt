@@ -1,4 +1,6 @@
 // The answer to what is typed to the program `write`, put out: its log to one descriptor; where there is none, the reason to another.
+#![tactic(auto)]
+
 ghost use Rattle.std.specs.Prelude.{◌≡◌, T};
 ghost use Rattle.writer.specs.Writing.{unwritten_number};
 ghost use Rattle.replies.specs.Replies.{replied, RepliesEnd, reply_statuses};

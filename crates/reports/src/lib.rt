@@ -1,4 +1,6 @@
 // The lines of a report, put at a place of an output; each answers the place after what it has put.
+#![tactic(auto)]
+
 ghost use Rattle.std.specs.Prelude.{◌≡◌, cond, [], ◌++◌, ◌+◌, ◌≤◌, eqb, length};
 ghost use Rattle.text.specs.Text.{text as Text·text, decimal, Put};
 ghost use Rattle.reports.specs.Reports.{following, said, report_line, held_line, longest_report};

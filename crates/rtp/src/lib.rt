@@ -1,4 +1,6 @@
 // RTP's fixed header: the tests on it, and the fields that are looked at.
+#![tactic(auto)]
+
 ghost use Rattle.std.specs.Prelude.{◌≡◌, ◌≤◌, length};
 ghost use Rattle.rtp.specs.Header.{header_bytes, is_plain, marker_in, sequence_in};
 

@@ -1,4 +1,6 @@
 // What the programs over stored files print around what they run: the file's name before it, the status after it.
+#![tactic(auto)]
+
 use libc::STDOUT_FILENO;
 use manners::Ending;
 

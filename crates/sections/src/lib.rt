@@ -1,4 +1,6 @@
 // The guide's sections, A/153 Part 3, Table 7.4: the checks on one, and its providers' names as parts of the caller's memory.
+#![tactic(auto)]
+
 ghost use Rattle.std.specs.Prelude.{◌≡◌, true, ◌+◌, ◌≤◌, length};
 ghost use Rattle.sections.specs.Sizes.{head_bytes, longest_section};
 ghost use Rattle.sections.specs.Walks.{place_of, descriptors, provider, providers, loops};

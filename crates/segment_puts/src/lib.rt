@@ -1,4 +1,6 @@
 // The segments of a chunk, made in place.
+#![tactic(auto)]
+
 ghost use Rattle.std.specs.Prelude.{◌≡◌, ◌+◌, ◌*◌, ◌≤◌, ◌<◌, length};
 ghost use Rattle.std.proofs.lemmas.List.Edits.{sets};
 ghost use Rattle.segments.specs.Segment.{segment_bytes, most_segments};

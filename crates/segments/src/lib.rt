@@ -1,4 +1,6 @@
 // A segment by itself: its sizes, the checks on its length and header, and its 35 bytes of payload.
+#![tactic(auto)]
+
 ghost use Rattle.std.specs.Prelude.{◌≡◌, ◌+◌, ◌≤◌, length, take, drop};
 ghost use Rattle.std.proofs.lemmas.List.Edits.{sets};
 ghost use Rattle.segments.specs.Segment.{payload_bytes, segment_checks};

@@ -1,5 +1,7 @@
 // One slot of the desk: 16 places of 35 bytes for the segments of one kind, and what a segment does there. Internal: the desk calls `gather`
 // (docs/DECISIONS.md, 7).
+#![tactic(auto)]
+
 ghost use Rattle.std.specs.Prelude.{◌≡◌, true, cond, ◌+◌, ◌*◌, ◌^◌, ◌≤◌, ◌<◌, length, take, drop};
 ghost use Rattle.std.proofs.lemmas.List.Edits.{sets};
 ghost use Rattle.meaning.specs.Sizes.{longest_listing, longest_chunk};

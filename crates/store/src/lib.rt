@@ -1,4 +1,6 @@
 // The reader of stored packets: what stands at a place of a store, and the packet there as a part of the caller's memory.
+#![tactic(auto)]
+
 ghost use Rattle.std.specs.Prelude.{◌≡◌, true, ◌+◌, ◌≤◌, drop};
 ghost use Rattle.records.specs.Records.{is_whole, size_of};
 ghost use Rattle.packets.specs.Stored.{stored_head_bytes};

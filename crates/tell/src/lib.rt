@@ -1,4 +1,6 @@
 // What the programs that run the samples print with, on standard output.
+#![tactic(auto)]
+
 use libc::STDOUT_FILENO;
 use meaning::{Kind, Refusal};
 

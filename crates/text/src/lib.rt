@@ -1,4 +1,6 @@
 // Words and decimal numbers, put at a place of an output; each answers the place after what it has put.
+#![tactic(auto)]
+
 ghost use Rattle.std.specs.Prelude.{◌≡◌, ◌+◌, ◌≤◌, length};
 ghost use Rattle.std.proofs.lemmas.List.Edits.{sets};
 ghost use Rattle.text.specs.Text.{decimal, numbered, offset_text, refused_with, Put};

@@ -1,4 +1,6 @@
 // The tunnel's reader: one outer packet in, the inner packets that it finishes out. What is running is held until the next.
+#![tactic(auto)]
+
 ghost use Rattle.std.specs.Prelude.{◌≡◌, false, cond, ◌&&◌, ◌++◌, ◌+◌, ◌-◌, ◌≤◌, ◌<◌, eqb, leb, length, get_or, take, drop};
 ghost use Rattle.std.proofs.lemmas.List.Edits.{sets};
 ghost use Rattle.rtp.specs.Header.{header_bytes, payload_in};

@@ -1,5 +1,7 @@
 // What each offered call of the tunnel says of its result, for any arguments: each function here has the call's contract, word for word, and only makes the call. No
 // `requires` stands on this page.
+#![tactic(auto)]
+
 ghost use Rattle.std.specs.Prelude.{◌≡◌, ◌+◌, T, length, drop};
 ghost use Rattle.octets.specs.Checks.{among};
 ghost use Rattle.manners.specs.Manners.{status_of};

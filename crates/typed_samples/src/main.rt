@@ -1,4 +1,6 @@
 // Runs what the program `write` does on each stored text that the arguments name, the reasons on standard output too, and the status.
+#![tactic(auto)]
+
 use libc::STDOUT_FILENO;
 
 // The answer to the text of a file.

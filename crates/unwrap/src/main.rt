@@ -1,4 +1,6 @@
 // Unwraps a file of outer packets: unwrap < FILE > PACKETS, the report on standard error.
+#![tactic(auto)]
+
 use libc::{STDERR_FILENO, STDIN_FILENO, STDOUT_FILENO};
 
 fn main() {

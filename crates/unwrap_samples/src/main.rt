@@ -1,5 +1,7 @@
 // Unwraps each stored file that the arguments name, twice: through a block of one of the longest records, and through a large one. Prints the packets, then the
 // report and the status.
+#![tactic(auto)]
+
 use libc::STDOUT_FILENO;
 
 // Through a block of one of the longest records; what is not printed goes nowhere.

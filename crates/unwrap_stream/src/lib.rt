@@ -1,5 +1,7 @@
 // A file of outer packets from one descriptor, the packets to another and the report to a third, in blocks. What is written is decided by `unwrapping`; here bytes are
 // moved.
+#![tactic(auto)]
+
 ghost use Rattle.std.specs.Prelude.{◌≡◌, List, ℕ, ◌≤◌, T, length};
 ghost use Rattle.octets.specs.Checks.{among};
 ghost use Rattle.records.specs.Records.{entry_in};

@@ -1,5 +1,7 @@
 // A file of outer packets given to the tunnel's reader, record by record: the packets that come out, and the lines of the report. `fill` goes through a block
 // of the file.
+#![tactic(auto)]
+
 ghost use Rattle.std.specs.Prelude.{◌≡◌, ◌+◌, ◌≤◌, length, drop};
 ghost use Rattle.records.specs.Records.{entry_in};
 ghost use Rattle.records.specs.Channels.{Turns, Fills};

@@ -1,4 +1,6 @@
 // Wraps a file of packets for the tunnel: wrap [PAYLOAD SIZE] < FILE > OUTER PACKETS, the report on standard error.
+#![tactic(auto)]
+
 use libc::{STDERR_FILENO, STDIN_FILENO, STDOUT_FILENO};
 
 // The payload size without a word.

@@ -1,5 +1,7 @@
 // Wraps each stored file that the arguments name, each behind the word for its payload size, twice: through a block of one of the longest records, and through a
 // large one. Prints the outer packets, then the report and the status.
+#![tactic(auto)]
+
 use libc::STDOUT_FILENO;
 
 // Says what follows, and opens the file; below 0 where that fails.

@@ -1,5 +1,7 @@
 // A file of timestamps and stored packets from one descriptor, the outer packets to another and the report to a third, in blocks. What is written is decided by
 // `wrapping`; here bytes are moved.
+#![tactic(auto)]
+
 ghost use Rattle.std.specs.Prelude.{◌≡◌, not, cond, ◌∷◌, ◌≤◌, T, length};
 ghost use Rattle.octets.specs.Checks.{among};
 ghost use Rattle.records.specs.Records.{entry_in};

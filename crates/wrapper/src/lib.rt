@@ -1,4 +1,6 @@
 // The tunnel's writer: inner packets in, the outer packets that they fill out. What fills none is left until the next call, or the close.
+#![tactic(auto)]
+
 ghost use Rattle.std.specs.Prelude.{◌≡◌, cond, ◌+◌, ◌*◌, ◌/◌, ◌%◌, ◌≤◌, ◌<◌, ltb, eqb, length, drop};
 ghost use Rattle.std.proofs.lemmas.List.Edits.{sets};
 ghost use Rattle.rtp.specs.Header.{header_bytes, sequences};

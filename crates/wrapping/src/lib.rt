@@ -1,5 +1,7 @@
 // A file of timestamps and stored packets given to the tunnel's writer, record by record: the outer packets that come out, and the lines of the report. `fill` goes
 // through a block of the file.
+#![tactic(auto)]
+
 ghost use Rattle.std.specs.Prelude.{◌≡◌, ◌+◌, ◌*◌, ◌-◌, ◌≤◌, length, take, drop};
 ghost use Rattle.std.proofs.lemmas.List.Edits.{sets};
 ghost use Rattle.text.specs.Text.{Put};

@@ -1,4 +1,6 @@
 // Writes the segments of a list as a log, from a line on standard input: echo "this LISTING IN HEX" | write
+#![tactic(auto)]
+
 use libc::{STDERR_FILENO, STDIN_FILENO, STDOUT_FILENO};
 
 fn main() {

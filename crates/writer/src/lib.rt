@@ -1,4 +1,6 @@
 // The writer: a whole listing in, the segments of its list out. All checks first, then all writing, so that a refusal writes nothing.
+#![tactic(auto)]
+
 ghost use Rattle.std.specs.Prelude.{◌≡◌};
 ghost use Rattle.writer.specs.Writing.{unwritten_number, WriteSays};
 

@@ -1,6 +1,8 @@
 // Runs the writer on document 01's samples, on the longest and the narrowest cases and on listings that are not well formed, each of them for
 // either kind, and prints a line for each: its name, the kind, the answer's number and, where the listing is accepted, how many segments and
 // the segments; then whether the rest of the output is as it was.
+#![tactic(auto)]
+
 mod made;
 
 use made::Made;
