@@ -202,10 +202,14 @@ def main(args):
             print(old, new)
         return 0
     rename_crates(root)
-    for path in files(root, ".antt"):
-        write(path, turn(text_of(path), QUIET_ANTT, turned))
+    # a function of src/ keeps its name, in its source and in the proof that goes by it
+    own = {m for path in files(root, ".rt") for m in re.findall(r"\bfn (\w+)", text_of(path))}
+    kept = {old: new for old, new in turned.items() if old not in own}
     for path in files(root, ".rt"):
-        write(path, turn(text_of(path), QUIET_RT, turned))
+        write(path, turn(text_of(path), QUIET_RT, kept))
+    for path in files(root, ".antt"):
+        below_proof = os.path.basename(path) == "Proof.antt"
+        write(path, turn(text_of(path), QUIET_ANTT, kept if below_proof else turned))
     return 0
 
 

@@ -69,7 +69,7 @@ pub fn start_at(bytes: &[u8], at: usize) -> Start
 }
 
 // Whether some bytes are a packet that may be carried.
-pub fn is_carried_lem(packet: &[u8]) -> bool
+pub fn is_carried(packet: &[u8]) -> bool
     ensures { result ≡ is_carried packet.now }
 {
     match start_at(packet, 0) {

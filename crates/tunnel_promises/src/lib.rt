@@ -142,7 +142,7 @@ pub fn wrapped_values(answer: wrapper::Wrapped) -> wrapper::Values
     wrapper::values_of(answer)
 }
 
-pub fn is_carried_lem(packet: &[u8]) -> bool
+pub fn is_carried(packet: &[u8]) -> bool
     ensures { result ≡ is_carried packet.now }
 {
     packets::is_carried(packet)

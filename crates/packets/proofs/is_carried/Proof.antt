@@ -2,8 +2,8 @@
 use mathlib.Core.Path.{sym, ◌∙◌}
 use Rattle.packets.proofs.Laws.{whole_is}
 use borrow.Author.Rules.{rules}
-use Rattle.packets.proofs.is_carried_lem.Statement.{statement}
-use Rattle.packets.proofs.is_carried_lem.Tie as tie
+use Rattle.packets.proofs.is_carried.Statement.{statement}
+use Rattle.packets.proofs.is_carried.Tie as tie
 
 start-at-requires : tie.Need-start-at-requires
 start-at-requires c κs = search rules

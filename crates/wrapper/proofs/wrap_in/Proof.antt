@@ -27,7 +27,7 @@ module _ (c : tie.After-left-by) where
   sized = sym c.before.before.before.before.is-size.ensures ∙ not-false _ c.before.before.if1.false
 
   carried : is_carried s.args.packet.now ≡ true
-  carried = sym c.before.before.before.is_carried_lem.ensures ∙ not-false _ c.before.if2.false
+  carried = sym c.before.before.before.is_carried.ensures ∙ not-false _ c.before.if2.false
 
   fits : Sized s.args.numbers sized
   fits = sized_is s.args.numbers sized
@@ -72,7 +72,7 @@ refuse-requires-2 c κs = search rules
 returns-2 : tie.Need-returns-2
 returns-2 c =
     let a = c.before.before.before.before.before.before.before.before.args in
-    says_unchanged a.numbers a.bytes.now a.out.now NotCarried (wrap_other (writer a.numbers a.bytes.now) a.out.now a.packet.now a.timestamp (sym c.before.before.before.before.is-size.ensures ∙ not-false _ c.before.before.if1.false) (sym c.before.before.before.is_carried_lem.ensures ∙ not-true _ c.before.if2.true)) c.refuse2.ensures.0 c.refuse2.ensures.1
+    says_unchanged a.numbers a.bytes.now a.out.now NotCarried (wrap_other (writer a.numbers a.bytes.now) a.out.now a.packet.now a.timestamp (sym c.before.before.before.before.is-size.ensures ∙ not-false _ c.before.before.if1.false) (sym c.before.before.before.is_carried.ensures ∙ not-true _ c.before.if2.true)) c.refuse2.ensures.0 c.refuse2.ensures.1
 
 left-by-requires : tie.Need-left-by-requires
 left-by-requires c κs = search rules

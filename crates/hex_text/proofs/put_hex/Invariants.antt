@@ -1,0 +1,15 @@
+use borrow.Author.Rules.{rules}
+use native.Mathlib.Omega.{arith}
+use Prim.Native.Nat.{◌+◌, ◌-◌, ◌*◌, ◌≤◌}
+use mathlib.Core.Path.{◌≡◌, refl, sym, ◌∙◌}
+use lib.ListN.{length, drop, length-set}
+use lib.Seq.{sets}
+use Rattle.hex_text.specs.Hex.{hex}
+use Rattle.hex_text.proofs.Written.{length-hex, hex_next, hex_none}
+use Rattle.hex_text.proofs.put_hex.Given as goal
+
+abbrev pub invariant-loop-i : goal.invariant-loop-i
+invariant-loop-i l = (l.i ≤ length l.bytes) × (l.at ≡ l.to + 2 * l.i) × (length l.out ≡ length l.initial.out) × (sets l.out l.at (hex (drop l.i l.bytes)) ≡ sets l.initial.out l.to (hex l.bytes))
+
+abbrev pub decreases-loop-i : goal.decreases-loop-i
+decreases-loop-i l = length l.bytes - l.i

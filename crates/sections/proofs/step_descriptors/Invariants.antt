@@ -1,0 +1,13 @@
+use mathlib.Core.Path.{◌≡◌, refl, sym, ◌∙◌}
+use Prim.Native.Nat.{◌+◌, ◌≤◌}
+use lib.ListN.{length}
+use Rattle.sections.specs.Walks.{descriptor_bytes, descriptors}
+use Rattle.sections.proofs.Steps.{byte_wide, none_left, descriptor_cut, descriptor_fits}
+use native.Mathlib.Omega.{arith}
+use Rattle.sections.proofs.step_descriptors.Given as goal
+
+abbrev pub invariant-loop-left : goal.invariant-loop-left
+invariant-loop-left l = (l.at ≤ length l.section) × (descriptors l.section l.left l.at ≡ descriptors l.section l.count l.from)
+
+abbrev pub decreases-loop-left : goal.decreases-loop-left
+decreases-loop-left l = l.left
