@@ -13,7 +13,7 @@ use std::io::{Read, Write};
 use std::rt::Env;
 
 // What came of a read that had room.
-#[derive(Drop)]
+#[derive(Clone, Copy)]
 pub enum Came {
     // so many bytes, one at least
     Bytes(usize),
@@ -23,7 +23,7 @@ pub enum Came {
 }
 
 // What came of a write.
-#[derive(Drop)]
+#[derive(Clone, Copy)]
 pub enum Sent {
     All,
     // whoever read the output has gone away
@@ -32,7 +32,7 @@ pub enum Sent {
 }
 
 // How a program's work ended.
-#[derive(Drop)]
+#[derive(Clone, Copy)]
 pub enum Ending {
     // all was read and answered; the number is that of the last line or of the refusal
     Over(u8),
@@ -47,7 +47,7 @@ pub enum Ending {
 }
 
 // A text that was read: how many bytes it has, and whether a read failed.
-#[derive(Drop)]
+#[derive(Clone, Copy)]
 pub struct Took {
     pub have: usize,
     pub failed: bool,
