@@ -13,7 +13,7 @@ use packets::{LONGEST_PACKET, STORED_HEAD_BYTES, Start};
 use rtp::HEADER_BYTES;
 
 // The reader's numbers: whether an outer packet was accepted, its sequence number, and how many bytes of a part packet are held.
-#[derive(Drop)]
+#[derive(Clone, Copy)]
 pub struct Numbers {
     pub begun: bool,
     pub last: u16,

@@ -12,7 +12,7 @@ use rtp::HEADER_BYTES;
 
 // The writer's numbers: the payload size, the next sequence number, how many bytes are left, where in them a packet first begins, and the timestamp of the
 // first of them.
-#[derive(Drop)]
+#[derive(Clone, Copy)]
 pub struct Numbers {
     pub size: usize,
     pub next: u16,
