@@ -15,9 +15,6 @@ returns-then-room-lt2 c = let a = c.args in
     let l = c.loop-left in
     sym (descriptor_cut a.section.now l.at l.left c.loop-left-test.true (omega arith)) ∙ l.invariant.1
 
-pub overflow_cast-size : goal.overflow_cast-size
-overflow_cast-size c = record { fits = byte_wide (c.shared_slice_known-1.given _).fits }
-
 pub returns-then-room-size : goal.returns-then-room-size
 returns-then-room-size c = let a = c.args in
     let l = c.loop-left in
