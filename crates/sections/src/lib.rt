@@ -7,7 +7,7 @@ ghost use Rattle.sections.specs.Walks.{place_of, descriptors, provider, provider
 ghost use Rattle.sections.specs.Reading.{is_ours, has_length, loops_standing, head_standing, standing, number_of, offset_of, is_in_force, name_count, name_in, name_place, Stands};
 
 // Why a section is refused: 20, 21, 22; 23 with the offset in the section of the first thing that runs past its end, or of the first byte left over.
-#[derive(Drop)]
+#[derive(Clone, Copy)]
 pub enum Refusal {
     BadLength,
     OtherProtocol,
