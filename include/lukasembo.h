@@ -1,7 +1,7 @@
 /* Lukasembo for programs in C: the reader and the writer of FIC chunks, what explains their refusals, those of the tunnel, and the reader of the guide table, proved to
  * meet the definitions of this repository.
  *
- * Linking. The archive is target/staticlib/liblukasembo.a, made by `rt staticlib lukasembo`. It is for x86-64 and needs nothing of the C library:
+ * Linking. The archive is target/staticlib/liblukasembo.a, made by c/build. It is for x86-64 and needs nothing of the C library:
  *
  *     gcc -Iinclude my.c target/staticlib/liblukasembo.a
  *

@@ -3,7 +3,7 @@
 
     python3 tests/log_samples.py
 
-It writes crates/log_samples/data, crates/log_samples/args, crates/log_samples/stdout, crates/log/stdin and crates/log/stdout. A log is
+It writes crates/log_samples/data, crates/log_samples/args, crates/log_samples/stdout, crates/log_program/stdin and crates/log_program/stdout. A log is
 made of steps, each a record with the answer that documents 01 and 02 demand, said here without the desk of tests/log.py; both must agree.
 Only long_night has no such answers.
 """

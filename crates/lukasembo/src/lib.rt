@@ -1,4 +1,5 @@
-// The reader, the writer, the tunnel's two, the guide's and the explanations for programs in C: thin over the proved calls. include/lukasembo.h declares them.
+// The reader, the writer, the tunnel's two, the guide's and the explanations for programs in C: thin over the proved calls. lukasembo_c exports them, and
+// include/lukasembo.h declares them.
 #![tactic(auto)]
 
 ghost use Rattle.std.specs.Prelude.{◌≡◌, ◌≤◌, ◌<◌, length, drop};
@@ -62,8 +63,7 @@ fn pack_written(answer: Written) -> u64
 }
 
 // Reads a chunk: its listing goes to the start of the buffer.
-#[unsafe(no_mangle)]
-pub extern "C" fn lukasembo_read(chunk: &[u8], buffer: &mut [u8]) -> u64
+pub fn lukasembo_read(chunk: &[u8], buffer: &mut [u8]) -> u64
     ensures { (result ≡ packed_read (read_answer chunk.now buffer.old)) × (buffer.new ≡ read_buffer chunk.now buffer.old) }
 {
     let answer = reader::read(chunk, buffer);
@@ -71,8 +71,7 @@ pub extern "C" fn lukasembo_read(chunk: &[u8], buffer: &mut [u8]) -> u64
 }
 
 // Writes the segments of a listing for the kind with this current_next: they go to the start of the output.
-#[unsafe(no_mangle)]
-pub extern "C" fn lukasembo_write(listing: &[u8], current: u8, output: &mut [u8]) -> u64
+pub fn lukasembo_write(listing: &[u8], current: u8, output: &mut [u8]) -> u64
     ensures { (result ≡ packed_written (write_answer listing.now (kind_of current) output.old)) × (output.new ≡ write_output listing.now (kind_of current) output.old) }
 {
     let kind = meaning::kind_of(current);
@@ -149,8 +148,7 @@ fn pack_unwrapped(answer: Unwrapped) -> u64
 }
 
 // Reads an outer packet: the inner packets that it finishes go to the start of the output.
-#[unsafe(no_mangle)]
-pub extern "C" fn lukasembo_unwrap_step(
+pub fn lukasembo_unwrap_step(
     numbers: u64,
     part: &mut [u8; 1500],
     outer: &[u8],
@@ -169,8 +167,7 @@ pub extern "C" fn lukasembo_unwrap_step(
 }
 
 // What stands at a place of a store.
-#[unsafe(no_mangle)]
-pub extern "C" fn lukasembo_next_packet(store: &[u8], at: usize) -> u64
+pub fn lukasembo_next_packet(store: &[u8], at: usize) -> u64
     ensures { result ≡ packed_next (next_in (drop at store.now)) }
 {
     match store::next_at(store, at) {
@@ -224,8 +221,7 @@ fn pack_given(answer: wrapper::Wrapped, numbers: wrapper::Numbers) -> Step
 }
 
 // Writes a packet: the outer packets that it fills go to the start of the output.
-#[unsafe(no_mangle)]
-pub extern "C" fn lukasembo_wrap_step(
+pub fn lukasembo_wrap_step(
     numbers: u64,
     since: u32,
     left: &mut [u8; 1400],
@@ -243,13 +239,7 @@ pub extern "C" fn lukasembo_wrap_step(
 }
 
 // Closes: what is left, if anything, goes to the start of the output.
-#[unsafe(no_mangle)]
-pub extern "C" fn lukasembo_close_step(
-    numbers: u64,
-    since: u32,
-    left: &[u8; 1400],
-    output: &mut [u8],
-) -> Step
+pub fn lukasembo_close_step(numbers: u64, since: u32, left: &[u8; 1400], output: &mut [u8]) -> Step
     ensures { CloseStepSays numbers since left.now output.old result.answer result.numbers output.new }
 {
     let m = unpack_writer(numbers, since);
@@ -332,8 +322,7 @@ fn guide_in(numbers: u64, noted: &mut [u64], section: &[u8]) -> Step
 }
 
 // Takes a section of the guide: its number is noted in the caller's four words.
-#[unsafe(no_mangle)]
-pub extern "C" fn lukasembo_guide_step(numbers: u64, noted: &mut [u64; 4], section: &[u8]) -> Step
+pub fn lukasembo_guide_step(numbers: u64, noted: &mut [u64; 4], section: &[u8]) -> Step
     ensures { GuideStepSays numbers noted.old section.now result.answer result.numbers noted.new }
 {
     let all: &mut [u64] = noted;
@@ -341,16 +330,14 @@ pub extern "C" fn lukasembo_guide_step(numbers: u64, noted: &mut [u64; 4], secti
 }
 
 // How many names a section has.
-#[unsafe(no_mangle)]
-pub extern "C" fn lukasembo_guide_names(section: &[u8]) -> usize
+pub fn lukasembo_guide_names(section: &[u8]) -> usize
     ensures { result ≡ name_count section.now }
 {
     sections::name_count(section)
 }
 
 // Where a name stands in its section.
-#[unsafe(no_mangle)]
-pub extern "C" fn lukasembo_name_place(section: &[u8], n: usize) -> u64
+pub fn lukasembo_name_place(section: &[u8], n: usize) -> u64
     ensures { result ≡ packed_name section.now n }
 {
     let place = sections::name_place(section, n);
@@ -428,8 +415,7 @@ fn unpack_slot(packed: u64) -> Slot
 }
 
 // Why the reader would refuse a chunk.
-#[unsafe(no_mangle)]
-pub extern "C" fn lukasembo_explain_chunk(chunk: &[u8]) -> Explanation
+pub fn lukasembo_explain_chunk(chunk: &[u8]) -> Explanation
     ensures { ExplainSays (chunk_explained chunk.now) result.answer result.value }
 {
     let explained = explains::explain_chunk(chunk);
@@ -437,8 +423,7 @@ pub extern "C" fn lukasembo_explain_chunk(chunk: &[u8]) -> Explanation
 }
 
 // Why a segment would be refused for its own length or header.
-#[unsafe(no_mangle)]
-pub extern "C" fn lukasembo_explain_segment(segment: &[u8]) -> Explanation
+pub fn lukasembo_explain_segment(segment: &[u8]) -> Explanation
     ensures { ExplainSays (segment_explained segment.now) result.answer result.value }
 {
     let explained = explains::explain_segment(segment);
@@ -446,8 +431,7 @@ pub extern "C" fn lukasembo_explain_segment(segment: &[u8]) -> Explanation
 }
 
 // The same, or why the slot of its kind would refuse it.
-#[unsafe(no_mangle)]
-pub extern "C" fn lukasembo_explain_gathered(segment: &[u8], slot: u64, bytes: &[u8]) -> Explanation
+pub fn lukasembo_explain_gathered(segment: &[u8], slot: u64, bytes: &[u8]) -> Explanation
     ensures { ExplainSays (gathered_explained (slot_in slot) bytes.now segment.now) result.answer result.value }
 {
     let numbers = unpack_slot(slot);

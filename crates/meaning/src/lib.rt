@@ -7,14 +7,14 @@ ghost use Rattle.meaning.specs.Lists.{kind_of, current_of};
 ghost use Rattle.meaning.specs.Numbers.{number_of, offset_of};
 
 // The frame that a list is for: the one it comes in, or the one after it.
-#[derive(Drop)]
+#[derive(Clone, Copy)]
 pub enum Kind {
     This,
     Next,
 }
 
 // What has to be in a chunk whole: its header, an ensemble's fields, a single service.
-#[derive(Drop)]
+#[derive(Clone, Copy)]
 pub enum Part {
     Header,
     EnsembleFields,
@@ -23,7 +23,7 @@ pub enum Part {
 
 // Why the reader or the desk refuses, a variant for each of their numbers in document 01. A chunk that ends early says which part is the first
 // that does not fit whole, and its offset in the chunk.
-#[derive(Drop)]
+#[derive(Clone, Copy)]
 pub enum Refusal {
     ShortBuffer,
     SegmentLength,
@@ -39,14 +39,14 @@ pub enum Refusal {
 }
 
 // What the checks on a chunk find.
-#[derive(Drop)]
+#[derive(Clone, Copy)]
 pub enum Checked {
     Fine,
     Fault(Refusal),
 }
 
 // What the reader answers.
-#[derive(Drop)]
+#[derive(Clone, Copy)]
 pub enum Read {
     Listed {
         kind: Kind,

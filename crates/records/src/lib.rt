@@ -6,7 +6,7 @@ ghost use Rattle.text.specs.Text.{Put};
 ghost use Rattle.records.specs.Records.{mark_bytes, mark_in, entry_of, entry_as, end_number, last_line, longest_last};
 
 // What a mark tells: so many bytes follow it; or it is none of this file's.
-#[derive(Drop)]
+#[derive(Clone, Copy)]
 pub enum Form {
     Foreign,
     Fixed(usize),
@@ -15,7 +15,7 @@ pub enum Form {
 }
 
 // What stands at a place of a file.
-#[derive(Drop)]
+#[derive(Clone, Copy)]
 pub enum Entry {
     End,
     // a whole record of so many bytes

@@ -1,7 +1,6 @@
 -- `segments::check_segment` meets its contract: each answer is the definition's at the first test that fails. Assumes nothing.
 use mathlib.Core.Path.{sym}
 use Rattle.segments.proofs.Checks.{checks-length, checks-sort, checks-error, checks-major, checks-number, checks_fine}
-use borrow.Author.Rules.{rules}
 use Rattle.segments.proofs.check_segment.Goals as goal
 
 pub returns-then-seg-ne-SEGMENT_BYTES : goal.returns-then-seg-ne-SEGMENT_BYTES

@@ -1,7 +1,6 @@
 -- `segments::copy_payload` meets its contract: what is put is what was taken. Assumes nothing.
 use mathlib.Core.Path.{ap, ◌∙◌}
 use lib.Seq.{sets}
-use borrow.Author.Rules.{rules}
 use Rattle.segments.proofs.copy_payload.Goals as goal
 
 pub returns : goal.returns

@@ -1,11 +1,8 @@
 -- `segments::payload_at` meets its contract. The loop's invariant: what is left of the 35 bytes, put here, makes the whole; the measure is what is left. Assumes nothing.
 use native.Mathlib.Omega.{arith}
-use Prim.Native.Nat.{◌-◌, ◌≤◌}
-use mathlib.Core.Path.{◌≡◌, refl, sym, ◌∙◌}
-use lib.ListN.{length, drop, length-set}
-use lib.Seq.{sets}
-use Rattle.segments.specs.Segment.{payload_bytes}
-use Rattle.segments.proofs.Places.{part, part_start, part_next, part_done}
+use mathlib.Core.Path.{refl, sym, ◌∙◌}
+use lib.ListN.{length-set}
+use Rattle.segments.proofs.Places.{part_start, part_next, part_done}
 use Rattle.segments.proofs.payload_at.Goals as goal
 
 pub loop-i-init : goal.loop-i-init

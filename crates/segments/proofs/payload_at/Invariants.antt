@@ -1,10 +1,9 @@
-use native.Mathlib.Omega.{arith}
 use Prim.Native.Nat.{◌-◌, ◌≤◌}
-use mathlib.Core.Path.{◌≡◌, refl, sym, ◌∙◌}
-use lib.ListN.{length, drop, length-set}
+use mathlib.Core.Path.{◌≡◌}
+use lib.ListN.{length, drop}
 use lib.Seq.{sets}
 use Rattle.segments.specs.Segment.{payload_bytes}
-use Rattle.segments.proofs.Places.{part, part_start, part_next, part_done}
+use Rattle.segments.proofs.Places.{part}
 use Rattle.segments.proofs.payload_at.Given as goal
 
 abbrev pub invariant-loop-i : goal.invariant-loop-i

@@ -1,8 +1,8 @@
 -- `segments::put_payload` meets its contract. The loop's invariant: what is left of the 35 bytes, put here, makes the whole; the measure is what is left. Assumes nothing.
 use native.Mathlib.Omega.{arith}
-use Prim.Native.Nat.{ℕ, ◌+◌, ◌-◌, ◌≤◌}
+use Prim.Native.Nat.{ℕ, ◌+◌}
 use mathlib.Core.Path.{◌≡◌, refl, sym, ap, ◌∙◌}
-use lib.ListN.{length, drop, length-set}
+use lib.ListN.{length, length-set}
 use lib.Seq.{sets}
 use Rattle.segments.specs.Segment.{payload_bytes}
 use native.Mathlib.Nat.{add-zero}
@@ -12,9 +12,6 @@ use Rattle.segments.proofs.put_payload.Goals as goal
 
 pub loop-i-init : goal.loop-i-init
 loop-i-init c = (omega arith, refl, ap (λ (n : ℕ). sets c.args.to.now n c.args.payload) (add-zero c.args.place))
-
-pub bounds-payload-i : goal.bounds-payload-i
-bounds-payload-i c = omega (arith, c.well-formed.0)
 
 pub bounds-to-place : goal.bounds-to-place
 bounds-to-place c = omega (arith, c.requires, c.loop-i.invariant.1)

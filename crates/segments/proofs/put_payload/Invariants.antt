@@ -1,12 +1,8 @@
-use native.Mathlib.Omega.{arith}
-use Prim.Native.Nat.{ℕ, ◌+◌, ◌-◌, ◌≤◌}
-use mathlib.Core.Path.{◌≡◌, refl, sym, ap, ◌∙◌}
-use lib.ListN.{length, drop, length-set}
+use Prim.Native.Nat.{◌+◌, ◌-◌, ◌≤◌}
+use mathlib.Core.Path.{◌≡◌}
+use lib.ListN.{length, drop}
 use lib.Seq.{sets}
 use Rattle.segments.specs.Segment.{payload_bytes}
-use native.Mathlib.Nat.{add-zero}
-use Rattle.octets.proofs.Stores.{copy_next, copy_done}
-use borrow.Author.Rules.{rules}
 use Rattle.segments.proofs.put_payload.Given as goal
 
 abbrev pub invariant-loop-i : goal.invariant-loop-i
