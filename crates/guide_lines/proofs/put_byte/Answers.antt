@@ -21,6 +21,6 @@ put_hex-requires c =
     let xs = c.args.name.now in
     let i = c.args.i in
     elim c.in_default.branch [
-        in_default-via-then-byte-lt32 w ↦ omega (arith, length-digits (get_or xs i 0) (omega arith) (inl (omega arith)), ap length (byte_part xs i c.requires.0))
+      | in_default-via-then-byte-lt32 w ↦ omega (arith, length-digits (get_or xs i 0) (omega arith) (inl (omega arith)), ap length (byte_part xs i c.requires.0))
       | in_default-via-else-byte-lt32+else-byte-lt127 w ↦ omega (arith, length-digits (get_or xs i 0) (omega arith) (inr (omega arith)), ap length (byte_part xs i c.requires.0))
     ]

@@ -1,11 +1,11 @@
 -- `guide_lines::put_escaped` meets its contract. The loop's invariant: the bytes left, put here, make the whole that was asked for. The measure is the number of bytes left. Assumes
 -- nothing.
-use Prim.Native.Nat.{◌+◌, ◌-◌, ◌≤◌}
+use Prim.Native.Nat.{◌+◌}
 use mathlib.Core.Path.{ap}
 use native.Mathlib.Omega.{arith}
 use lib.ListN.{length, get_or, drop, length-append}
 use Rattle.guide_lines.specs.Lines.{escaped, escaped_name}
-use Rattle.guide_lines.proofs.Laws.{Left, left_all, left_more, left_none, escaped_next, escaped_none}
+use Rattle.guide_lines.proofs.Laws.{left_all, left_more, left_none, escaped_next, escaped_none}
 use Rattle.guide_lines.proofs.put_escaped.Goals as goal
 
 pub loop-i-init : goal.loop-i-init

@@ -1,9 +1,7 @@
-use Prim.Native.Nat.{◌+◌, ◌-◌, ◌≤◌}
-use mathlib.Core.Path.{ap}
-use native.Mathlib.Omega.{arith}
-use lib.ListN.{length, get_or, drop, length-append}
-use Rattle.guide_lines.specs.Lines.{escaped, escaped_name}
-use Rattle.guide_lines.proofs.Laws.{Left, left_all, left_more, left_none, escaped_next, escaped_none}
+use Prim.Native.Nat.{◌-◌, ◌≤◌}
+use lib.ListN.{length, drop}
+use Rattle.guide_lines.specs.Lines.{escaped_name}
+use Rattle.guide_lines.proofs.Laws.{Left}
 use Rattle.guide_lines.proofs.put_escaped.Given as goal
 
 abbrev pub invariant-loop-i : goal.invariant-loop-i

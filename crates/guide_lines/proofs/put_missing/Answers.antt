@@ -2,7 +2,6 @@
 use native.Mathlib.Omega.{arith}
 use Rattle.text.specs.Text.{numbered}
 use Rattle.text.proofs.Laws.{put_both, length-numbered}
-use borrow.Author.Rules.{rules}
 use Rattle.guide_lines.proofs.put_missing.Goals as goal
 
 pub put_numbered-requires : goal.put_numbered-requires

@@ -6,7 +6,6 @@ use Rattle.text.specs.Text.{text}
 use Rattle.text.proofs.Laws.{put_same, put_both}
 use Rattle.guide_lines.specs.Lines.{escaped_name}
 use Rattle.guide_lines.proofs.Laws.{text_none, text_some}
-use borrow.Author.Rules.{rules}
 use Rattle.guide_lines.proofs.put_name.Goals as goal
 
 pub returns-then-name-eq0 : goal.returns-then-name-eq0

@@ -5,7 +5,6 @@ use Rattle.text.specs.Text.{text, newline, decimal}
 use Rattle.text.proofs.Laws.{put_same, put_both}
 use Rattle.guide_lines.specs.Lines.{name_text}
 use Rattle.guide_lines.proofs.Laws.{line_parts, length-line}
-use borrow.Author.Rules.{rules}
 use Rattle.guide_lines.proofs.put_name_line.Goals as goal
 
 pub put_text-word-requires : goal.put_text-word-requires

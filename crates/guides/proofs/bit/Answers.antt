@@ -1,5 +1,4 @@
 -- `guides::bit` meets its contract: nothing is shifted out. Assumes nothing.
-use borrow.Author.Rules.{rules}
 use Rattle.octets.proofs.Sets.{bit_exact}
 use Rattle.guides.proofs.bit.Goals as goal
 

@@ -4,7 +4,6 @@ use mathlib.Core.Path.{ap}
 use lib.Dec.{eqb}
 use lib.ListN.{get_or}
 use Rattle.octets.proofs.Sets.{bit_pos}
-use borrow.Author.Rules.{rules}
 use Rattle.guides.proofs.is_noted.Goals as goal
 
 pub nonzero_div-result : goal.nonzero_div-result

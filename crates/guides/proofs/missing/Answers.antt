@@ -1,7 +1,6 @@
 -- `guides::missing` meets its contract: of the numbers below the top, no more than those are counted. Assumes nothing.
 use Prim.Native.Nat.{◌+◌}
 use native.Mathlib.Omega.{arith}
-use borrow.Author.Rules.{rules}
 use Rattle.guides.specs.Gathering.{is_noted}
 use Rattle.guides.proofs.Counts.{count_most}
 use Rattle.guides.proofs.missing.Goals as goal

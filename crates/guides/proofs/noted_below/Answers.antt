@@ -1,9 +1,7 @@
 -- `guides::noted_below` meets its contract: word by word, those below here are counted. Assumes nothing.
-use Prim.Native.Nat.{ℕ, ◌+◌, ◌-◌, ◌/◌, ◌%◌, ◌<◌, min}
-use mathlib.Core.List.{List}
+use Prim.Native.Nat.{◌+◌, ◌/◌, min}
 use mathlib.Core.Path.{◌≡◌, refl, ap, ap₂, ◌∙◌}
 use native.Mathlib.Omega.{arith}
-use lib.Count.{ones}
 use lib.ListN.{get_or}
 use mir.Syntax.{w64}
 use mir.Val.{Fits}

@@ -1,11 +1,10 @@
 -- `guides::ones_within` meets its contract: a word has no bits beyond its 64. Assumes nothing.
-use Prim.Native.Nat.{ℕ, ◌*◌, ◌%◌, ◌^◌, ◌≤◌}
+use Prim.Native.Nat.{ℕ, ◌%◌}
 use mathlib.Core.Path.{sym, ap}
-use native.Mathlib.Nat.{mod-le, lt_of_le_of_lt}
+use native.Mathlib.Nat.{lt_of_le_of_lt}
 use lib.Dec.{lit<}
 use lib.Count.{ones, ones-le}
 use lib.Pow.{pow_pos}
-use borrow.Author.Rules.{rules}
 use Rattle.octets.proofs.Sets.{bit_exact}
 use Rattle.guides.proofs.Words.{all_bits}
 use Rattle.guides.proofs.ones_within.Goals as goal

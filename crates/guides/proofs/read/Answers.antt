@@ -1,6 +1,5 @@
 -- `guides::read` meets its contract: read before, or noted. Assumes nothing.
 use mathlib.Core.Path.{sym, ◌∙◌}
-use borrow.Author.Rules.{rules}
 use Rattle.guides.proofs.Laws.{tells-repeat, tells_noted}
 use Rattle.guides.proofs.read.Goals as goal
 

@@ -1,11 +1,7 @@
 -- `guiding::fill` meets its contract. The loop's invariant: what is left to fill, put here, makes the whole that was asked for; the measure is what is left of the file. Assumes nothing.
-use mathlib.Core.Path.{◌∙◌}
-use Prim.Native.Nat.{◌-◌}
 use native.Mathlib.Omega.{arith}
-use lib.ListN.{length}
 use Rattle.octets.proofs.Laws.{bytes_all}
-use Rattle.guiding.proofs.Laws.{Doing, doing_start, doing_full, doing_stops, doing_less, doing_more}
-use borrow.Author.Rules.{rules}
+use Rattle.guiding.proofs.Laws.{doing_start, doing_full, doing_stops, doing_less, doing_more}
 use Rattle.guiding.proofs.fill.Goals as goal
 
 pub loop-out-init : goal.loop-out-init

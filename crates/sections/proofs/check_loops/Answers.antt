@@ -3,7 +3,6 @@ use mathlib.Core.Path.{refl, sym, ◌∙◌}
 use borrow.Author.Tests.{lt-ltb, le-ltb}
 use Rattle.sections.proofs.Steps.{loops-within, loops_stand}
 use native.Mathlib.Omega.{arith}
-use borrow.Author.Rules.{rules}
 use Rattle.sections.proofs.check_loops.Goals as goal
 
 pub overflow_cast-at : goal.overflow_cast-at

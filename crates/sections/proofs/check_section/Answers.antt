@@ -1,7 +1,6 @@
 -- `sections::check_section` meets its contract. Assumes nothing.
 use mathlib.Core.Path.{sym, ◌∙◌}
 use Rattle.sections.proofs.Steps.{length_right, standing-empty, standing_foreign, standing-length, standing-head}
-use borrow.Author.Rules.{rules}
 use Rattle.sections.proofs.check_section.Goals as goal
 
 pub returns-then-section-eq0 : goal.returns-then-section-eq0

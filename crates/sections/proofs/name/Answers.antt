@@ -13,5 +13,5 @@ returns c = let a = c.args in
     let place : called.result.from + a.section.ref_ptr.1 ≡ a.section.ref_ptr.1 + name_place a.section.now a.n = omega (arith, called.ensures.begins) in
     record {
       result_value = ap (λ (k : ℕ). take k (drop called.result.from a.section.now)) size ∙ called.ensures.bytes;
-      ref_ptr_value = λ i. (a.section.ref_ptr.0, place i)
+      ref_ptr_value = λ i. (a.section.ref_ptr.0, place i);
     }

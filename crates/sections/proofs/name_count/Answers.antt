@@ -1,9 +1,8 @@
 -- `sections::name_count` meets its contract: a section in force has its head. Assumes nothing.
 use mathlib.Core.Path.{sym, ap, ◌∙◌}
 use Rattle.sections.specs.Reading.{is_in_force}
-use Rattle.sections.proofs.Steps.{byte_wide, in_force_head, count_none, count_some}
+use Rattle.sections.proofs.Steps.{in_force_head, count_none, count_some}
 use native.Mathlib.Omega.{arith}
-use borrow.Author.Rules.{rules}
 use Rattle.sections.proofs.name_count.Goals as goal
 
 pub returns-then-not-is_in_force : goal.returns-then-not-is_in_force

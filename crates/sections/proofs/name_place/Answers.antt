@@ -1,14 +1,14 @@
 -- `sections::name_place` meets its contract: a name that is there lies inside of the section. Assumes nothing.
 use mathlib.Core.Path.{◌≡◌, ap, ◌∙◌}
 use mathlib.Core.List.{List}
-use Prim.Native.Nat.{ℕ, ◌+◌, ◌<◌, ◌≤◌}
+use Prim.Native.Nat.{ℕ, ◌+◌, ◌<◌}
 use lib.ListN.{get_or}
 use Rattle.sections.specs.declared.Walk.{Walk}
 use Rattle.sections.specs.Sizes.{head_bytes}
 use Rattle.sections.specs.Walks.{place_of, providers}
 use Rattle.sections.specs.Reading.{name_count, Stands}
 use Rattle.sections.proofs.Names.{passes-longest, in_force_passes}
-use Rattle.sections.proofs.Steps.{byte_wide, counted_in_force, none_stands, name-stands}
+use Rattle.sections.proofs.Steps.{counted_in_force, none_stands, name-stands}
 use native.Mathlib.Omega.{arith}
 use Rattle.sections.proofs.name_place.Goals as goal
 

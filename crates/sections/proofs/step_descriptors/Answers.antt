@@ -1,9 +1,9 @@
 -- `sections::step_descriptors` meets its contract: the walk over what is left, from here on, is the walk asked for. Assumes nothing.
-use mathlib.Core.Path.{◌≡◌, refl, sym, ◌∙◌}
+use mathlib.Core.Path.{refl, sym, ◌∙◌}
 use Prim.Native.Nat.{◌+◌, ◌≤◌}
 use lib.ListN.{length}
-use Rattle.sections.specs.Walks.{descriptor_bytes, descriptors}
-use Rattle.sections.proofs.Steps.{byte_wide, none_left, descriptor_cut, descriptor_fits}
+use Rattle.sections.specs.Walks.{descriptor_bytes}
+use Rattle.sections.proofs.Steps.{none_left, descriptor_cut, descriptor_fits}
 use native.Mathlib.Omega.{arith}
 use Rattle.sections.proofs.step_descriptors.Goals as goal
 

@@ -1,7 +1,6 @@
 -- `sections::step_loops` meets its contract. Assumes nothing.
 use mathlib.Core.Path.{sym, ◌∙◌}
-use Rattle.sections.proofs.Steps.{byte_wide, counted-cut, counted-fits, loops_after}
-use borrow.Author.Rules.{rules}
+use Rattle.sections.proofs.Steps.{counted-cut, counted-fits, loops_after}
 use Rattle.sections.proofs.step_loops.Goals as goal
 
 pub returns-then-section-at : goal.returns-then-section-at

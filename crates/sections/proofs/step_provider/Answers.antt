@@ -4,9 +4,8 @@ use mathlib.Core.List.{List}
 use Prim.Native.Nat.{ℕ, ◌+◌, ◌≤◌}
 use lib.ListN.{length, get_or}
 use Rattle.sections.specs.declared.Walk.TheVariants.{Cut}
-use Rattle.sections.proofs.Steps.{byte_wide, counted-cut, counted-fits, name_none, name-cut, name-fits}
+use Rattle.sections.proofs.Steps.{counted-cut, counted-fits, name_none, name-cut, name-fits}
 use native.Mathlib.Omega.{arith}
-use borrow.Author.Rules.{rules}
 use Rattle.sections.proofs.step_provider.Goals as goal
 
 pub returns-then-end-start : goal.returns-then-end-start

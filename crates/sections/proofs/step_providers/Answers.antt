@@ -1,11 +1,6 @@
 -- `sections::step_providers` meets its contract: the walk over what is left, from here on, is the walk asked for. Assumes nothing.
-use mathlib.Core.Path.{◌≡◌, refl, sym, ◌∙◌}
-use Prim.Native.Nat.{◌≤◌}
-use lib.ListN.{length}
-use Rattle.sections.specs.Walks.{providers}
+use mathlib.Core.Path.{refl, sym, ◌∙◌}
 use Rattle.sections.proofs.Steps.{no_provider, provider-cut, provider_next, provider-within}
-use borrow.Author.Rules.{rules}
-use native.Mathlib.Omega.{arith}
 use Rattle.sections.proofs.step_providers.Goals as goal
 
 pub loop-left-init : goal.loop-left-init

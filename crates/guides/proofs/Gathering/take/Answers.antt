@@ -1,8 +1,6 @@
 -- `guides::Gathering::take` meets its contract: by what the section is; one in force has its head. Assumes nothing.
-use Prim.Native.Nat.{◌≤◌}
 use mathlib.Core.Path.{sym, ap, ◌∙◌}
 use native.Mathlib.Omega.{arith}
-use lib.ListN.{length}
 use Rattle.sections.specs.declared.Standing.TheVariants.{NotOurs, NotYet, InForce, Refused}
 use Rattle.sections.specs.Reading.{is_in_force}
 use Rattle.sections.proofs.Steps.{in_force_head}
