@@ -16,7 +16,7 @@ pub enum Refusal {
 }
 
 // What a section is found to be.
-#[derive(Drop)]
+#[derive(Clone, Copy)]
 pub enum Standing {
     // another table's
     NotOurs,
@@ -27,7 +27,7 @@ pub enum Standing {
 }
 
 // Where something ends that is stepped over; or where the first thing of it begins that runs past the section's end.
-#[derive(Drop)]
+#[derive(Clone, Copy)]
 pub enum Walk {
     To(usize),
     Cut(usize),
@@ -270,7 +270,7 @@ pub fn name_count(section: &[u8]) -> usize
 }
 
 // Where a name stands in its section, and how long it is.
-#[derive(Drop)]
+#[derive(Clone, Copy)]
 pub struct Place {
     pub from: usize,
     pub length: usize,
