@@ -7,9 +7,11 @@ ghost use Rattle.records.specs.Records.{longest_last};
 
 use manners::{Came, Ending, Sent};
 use records::Entry;
+use std::io;
+use std::io::{Read, Write};
 
 // What a turn leaves to be done.
-#[derive(Drop)]
+#[derive(Clone, Copy)]
 pub enum Step {
     // the next turn
     Next,
@@ -24,7 +26,7 @@ pub enum Step {
 }
 
 // The unread part of a block: from at up to have; and what is to be done next.
-#[derive(Drop)]
+#[derive(Clone, Copy)]
 pub struct Unread {
     pub at: usize,
     pub have: usize,
@@ -60,7 +62,7 @@ fn step_after(came: Came) -> Step
 }
 
 // Reads more behind what is unread, which comes to the start of the block and is kept byte for byte.
-fn refill(from: i32, block: &mut [u8], at: usize, have: usize) -> Unread
+fn refill<R: Read>(from: &mut R, block: &mut [u8], at: usize, have: usize) -> Unread
     requires { (at ≤ have) × (have ≤ length block.old) × (have - at < length block.old) }
     ensures { Refilled block.old at have block.new result }
 {
@@ -82,7 +84,7 @@ fn stay(at: usize, have: usize, step: Step) -> Unread
 
 // What follows at a place of the block where this entry stands, the records before it being printed: a record waits there, or more has to be
 // read, or it is over. The unread part of an entry that needs more leaves room in the block.
-fn advance(from: i32, block: &mut [u8], at: usize, have: usize, entry: Entry) -> Unread
+fn advance<R: Read>(from: &mut R, block: &mut [u8], at: usize, have: usize, entry: Entry) -> Unread
     requires at_le_have { (at ≤ have) × (have ≤ length block.old) }
     requires at_in_bounds { (entry ≡ Entry.End) ⊎ (entry ≡ Entry.Cut) → have - at < length block.old }
     ensures { Advances entry block.old at have block.new result }
@@ -96,9 +98,9 @@ fn advance(from: i32, block: &mut [u8], at: usize, have: usize, entry: Entry) ->
 }
 
 // What follows once the records between two places were written, or could not be.
-pub fn proceed(
+pub fn proceed<R: Read>(
     sent: Sent,
-    from: i32,
+    from: &mut R,
     block: &mut [u8],
     at: usize,
     next: usize,
@@ -132,7 +134,14 @@ pub fn stops(step: Step) -> bool
 }
 
 // Ends a run at a step, where this entry stands: what comes last is written, and the last of the report, if no more can come.
-pub fn conclude(step: Step, entry: Entry, last: &[u8], to: i32, report: &[u8], aside: i32) -> Ending
+pub fn conclude<W: Write, V: Write>(
+    step: Step,
+    entry: Entry,
+    last: &[u8],
+    to: &mut W,
+    report: &[u8],
+    aside: &mut V,
+) -> Ending
     ensures { Concludes step entry result }
 {
     match step {
@@ -148,16 +157,16 @@ pub fn conclude(step: Step, entry: Entry, last: &[u8], to: i32, report: &[u8], a
 }
 
 // The same with the last line, which is put to the start of the output.
-pub fn settle(step: Step, entry: Entry, out: &mut [u8], to: i32) -> Ending
+pub fn settle<W: Write>(step: Step, entry: Entry, out: &mut [u8], to: &mut W) -> Ending
     requires { longest_last ≤ length out.old }
     ensures { Settles step entry out.new result }
 {
     let n = records::put_last(entry, out);
-    conclude(step, entry, &out[..n], to, b"", to)
+    conclude(step, entry, &out[..n], to, b"", &mut io::sink())
 }
 
 // After a run: how it ended, after how many turns, and where in the block.
-#[derive(Drop)]
+#[derive(Clone, Copy)]
 pub struct Ended {
     pub ending: Ending,
     pub turns: u64,
@@ -166,14 +175,14 @@ pub struct Ended {
 }
 
 // Ends a run after so many turns, at a place of the block where this entry stands.
-pub fn finish(
+pub fn finish<W: Write>(
     step: Step,
     entry: Entry,
     turns: u64,
     at: usize,
     have: usize,
     out: &mut [u8],
-    to: i32,
+    to: &mut W,
 ) -> Ended
     requires { longest_last ≤ length out.old }
     ensures { Settles step entry out.new result.ending × (result.turns ≡ turns) × (result.at ≡ at) × (result.have ≡ have) }

@@ -1,16 +1,8 @@
 -- What the system's answers come to. Assumes nothing.
-use Prim.Native.Nat.{ℕ, ◌-◌, ◌≤◌}
-use native.Mathlib.Omega.{arith}
-use mathlib.Core.Path.{◌≡◌, refl, sym, ap}
-use mathlib.Core.Logic.{inl, inr}
-use mathlib.Core.Bool.{Bool, true, false, cond, true≢false}
-use borrow.Author.Tests.{eqb-false, eq-eqb, ne_eqb, ltb-true, ltb-false}
+use Rattle.std.proofs.Common.{ℕ, ◌-◌, ◌≤◌, ◌≡◌, refl, sym, ap, ◌∙◌, Bool, cond, arith, inl, inr}
+use Rattle.std.specs.Prelude.{Result, Ok, Err, IfOk, eqb, ℤ, pos, negsuc}
+use borrow.Author.Tests.{eqb-false, ne_eqb}
 use Rattle.octets.proofs.Laws.{either}
-use lib.Dec.{T, eqb}
-use lib.IntN.{ℤ, pos, negsuc, nat_abs}
-use lib.Signed.{non_neg, lt_z}
-use Rattle.libc.specs.Io.{Moved}
-use Rattle.manners.specs.declared.Came.{Came}
 use Rattle.manners.specs.declared.Came.TheVariants.{Bytes, End, Failed}
 use Rattle.manners.specs.declared.Sent.{Sent}
 use Rattle.manners.specs.declared.Sent.TheVariants.{All, Gone}
@@ -19,27 +11,20 @@ use Rattle.manners.specs.Manners.{came_of, sent_of, Room, gone_error, ended_by, 
 
 -- ---- a read
 
-pub came_failed : (z : ℤ) → lt_z z (pos 0) ≡ true → Failed ≡ came_of z
-came_failed (pos n) h = absurd (omega (arith, ltb-true n 0 h))
-came_failed (negsuc n) h = refl
+pub came_failed : {E : Type 0} (r : Result ℕ E) (e : E) → r ≡ Err e → Failed ≡ came_of r
+came_failed r e is = ap came_of (sym is)
 
-pub came_some : (z : ℤ) → lt_z (pos 0) z ≡ true → Bytes (nat_abs z) ≡ came_of z
-came_some (pos n) h = sym (ap (λ (t : Bool). cond t End (Bytes n)) (ne_eqb n 0 (λ e. absurd (omega (arith, ltb-true 0 n h)))))
-came_some (negsuc n) h = absurd (true≢false (sym h))
+pub came_some : {E : Type 0} (r : Result ℕ E) (n : ℕ) → r ≡ Ok n → (n ≡ 0 → ⊥) → Bytes n ≡ came_of r
+came_some r n is h = sym (ap (λ (t : Bool). cond t End (Bytes n)) (ne_eqb n 0 h)) ∙ ap came_of (sym is)
 
-pub came_none : (z : ℤ) → lt_z z (pos 0) ≡ false → lt_z (pos 0) z ≡ false → End ≡ came_of z
-came_none (pos n) h g = sym (ap (λ (t : Bool). cond t End (Bytes n)) (eq-eqb n 0 (omega (arith, ltb-false 0 n g))))
-came_none (negsuc n) h g = absurd (true≢false h)
+pub came_none : {E : Type 0} (r : Result ℕ E) → r ≡ Ok 0 → End ≡ came_of r
+came_none r is = ap came_of (sym is)
 
-pub some_nonneg : (z : ℤ) → lt_z (pos 0) z ≡ true → T (non_neg z)
-some_nonneg (pos n) h = tt
-some_nonneg (negsuc n) h = absurd (true≢false (sym h))
-
--- what moved into the room behind the first bytes of a block lies inside it
-pub moved_inside : (block have : ℕ) (z : ℤ) → have ≤ block → Moved (block - have) z → Room block have (came_of z)
-moved_inside block have (pos n) h m =
+-- what came into the room behind the first bytes of a block lies inside it
+pub moved_inside : {E : Type 0} (block have : ℕ) (r : Result ℕ E) → have ≤ block → IfOk r (λ n. n ≤ block - have) → Room block have (came_of r)
+moved_inside block have (Ok n) h m =
     either (eqb n 0) (λ t. rw t tt) (λ f. rw f (omega (arith, eqb-false n 0 f), omega arith))
-moved_inside block have (negsuc n) h m = tt
+moved_inside block have (Err e) h m = tt
 
 -- ---- a write
 

@@ -1,5 +1,5 @@
 -- What came of a read and of a write, and the status that a program ends with.
-use Rattle.std.specs.Prelude.{ℕ, ◌+◌, ◌≤◌, ◌≡◌, cond, ◌⊎◌, eqb, ℤ, pos, negsuc}
+use Rattle.std.specs.Prelude.{ℕ, ◌+◌, ◌≤◌, ◌≡◌, cond, ◌⊎◌, eqb, ℤ, pos, negsuc, Result, Ok, Err, List, length, take}
 use Rattle.manners.specs.declared.Came.{Came}
 use Rattle.manners.specs.declared.Came.TheVariants.{Bytes, End, Failed}
 use Rattle.manners.specs.declared.Sent.{Sent}
@@ -8,11 +8,11 @@ use Rattle.manners.specs.declared.Sent.TheVariants.{Failed as NotSent}
 use Rattle.manners.specs.declared.Ending.{Ending}
 use Rattle.manners.specs.declared.Ending.TheVariants.{Over, Unheard, NotRead, NotWritten, Spent}
 
--- ---- a read that had room: the system answers how many bytes came, 0 at the end of the input, or -1
+-- ---- a read that had room: the system answers how many bytes came, 0 at the end of the input, or an error
 
-abbrev pub came_of : ℤ → Came
-came_of (pos n) = cond (eqb n 0) End (Bytes n)
-came_of (negsuc n) = Failed
+abbrev pub came_of : {E : Type 0} → Result ℕ E → Came
+came_of (Ok n) = cond (eqb n 0) End (Bytes n)
+came_of (Err e) = Failed
 
 abbrev pub bytes_in : Came → ℕ
 bytes_in (Bytes n) = n
@@ -24,6 +24,10 @@ abbrev pub Room : ℕ → ℕ → Came → Type 0
 Room block have (Bytes n) = (1 ≤ n) × (have + n ≤ block)
 Room block have End = Unit {0}
 Room block have Failed = Unit {0}
+
+-- so many bytes at the start of a buffer lie inside it, and are so many
+abbrev pub Counts : ℕ → List ℕ → Type 0
+Counts n buf = (n ≤ length buf) × (n ≡ length (take n buf))
 
 -- ---- a write that failed, by the system's number of the error
 

@@ -1,14 +1,19 @@
 // The manners of a program: what it does around its answers, where a read or a write fails, with words, and as it ends.
 #![tactic(auto)]
 
-ghost use Rattle.std.specs.Prelude.{◌≡◌, ◌<◌, length, take};
-ghost use Rattle.io.specs.Counts.{IsPrefixLen};
-ghost use Rattle.manners.specs.Manners.{came_of, bytes_in, sent_of, ended_by, status_of, Room};
+ghost use Rattle.std.specs.Prelude.{◌≡◌, ◌<◌, length, take, None, Some, IfSome, IfErr, OnOk};
+ghost use Rattle.std.specs.Io.{ReadsAtMost, WritesAtMost};
+ghost use Rattle.std.specs.Io.KnownBytes.{Keeps, Appends, ReadConsumes, WriteAppends};
+ghost use Rattle.manners.specs.Manners.{came_of, bytes_in, sent_of, ended_by, misused, status_of, Counts, Room};
 
-use libc::STDERR_FILENO;
+use std::env::FillError;
+use std::fmt::InlineText;
+use std::io;
+use std::io::{Read, Write};
+use std::rt::Env;
 
 // What came of a read that had room.
-#[derive(Drop)]
+#[derive(Clone, Copy)]
 pub enum Came {
     // so many bytes, one at least
     Bytes(usize),
@@ -18,7 +23,7 @@ pub enum Came {
 }
 
 // What came of a write.
-#[derive(Drop)]
+#[derive(Clone, Copy)]
 pub enum Sent {
     All,
     // whoever read the output has gone away
@@ -27,7 +32,7 @@ pub enum Sent {
 }
 
 // How a program's work ended.
-#[derive(Drop)]
+#[derive(Clone, Copy)]
 pub enum Ending {
     // all was read and answered; the number is that of the last line or of the refusal
     Over(u8),
@@ -42,7 +47,7 @@ pub enum Ending {
 }
 
 // A text that was read: how many bytes it has, and whether a read failed.
-#[derive(Drop)]
+#[derive(Clone, Copy)]
 pub struct Took {
     pub have: usize,
     pub failed: bool,
@@ -53,22 +58,27 @@ pub const FAILED: u8 = 1;
 
 pub const MISUSED: u8 = 2;
 
-// The descriptor to which a program says its status.
-const STATUS_FILENO: i32 = 7;
+// The system's number of the error where nobody reads what is written.
+const EPIPE: i32 = 32;
+
+// A reader or a writer, and the error of the last call that failed.
+#[derive(Drop)]
+pub struct Watched<S> {
+    pub inner: S,
+    pub error: Option<io::Error>,
+}
 
 // ---- reading and writing
 
 // By what the system answered to a read.
-fn told(got: isize) -> Came
+fn told(got: io::Result<usize>) -> Came
     ensures { result ≡ came_of got }
 {
-    if got < 0 {
-        return Came::Failed;
+    match got {
+        Ok(0) => Came::End,
+        Ok(n) => Came::Bytes(n),
+        Err(_) => Came::Failed,
     }
-    if 0 < got {
-        return Came::Bytes(got as usize);
-    }
-    Came::End
 }
 
 // How many bytes came.
@@ -83,18 +93,18 @@ pub fn bytes_in(came: Came) -> usize
 }
 
 // Reads once, behind the first bytes of a block, which are kept.
-pub fn read_behind(from: i32, block: &mut [u8], have: usize) -> Came
+pub fn read_behind<R: Read>(from: &mut R, block: &mut [u8], have: usize) -> Came
     requires { have < length block.old }
     ensures room { Room (length block.old) have result }
     ensures block_unchanged { take have block.new ≡ take have block.old }
 {
-    let got = libc::read(from, &mut block[have..]);
+    let got = from.read(&mut block[have..]);
     told(got)
 }
 
 // Reads until the buffer is full, the input ends or a read fails.
-pub fn read_full(from: i32, buf: &mut [u8]) -> Took
-    ensures { IsPrefixLen result.have buf.new }
+pub fn read_full<R: Read>(from: &mut R, buf: &mut [u8]) -> Took
+    ensures { Counts result.have buf.new }
 {
     let mut have = 0;
     while have < buf.len() {
@@ -126,22 +136,27 @@ pub fn read_full(from: i32, buf: &mut [u8]) -> Took
 fn unsent(error: i32) -> Sent
     ensures { result ≡ sent_of error }
 {
-    if error == libc::EPIPE {
+    if error == EPIPE {
         return Sent::Gone;
     }
     Sent::Failed
 }
 
 // Writes all of some bytes.
-pub fn write_out(to: i32, bytes: &[u8]) -> Sent {
-    if io::write_all(to, bytes) {
-        return Sent::All;
+pub fn write_out<W: Write>(to: &mut W, bytes: &[u8]) -> Sent {
+    match to.write_all(bytes) {
+        Ok(()) => Sent::All,
+        Err(e) => unsent(e.raw_os_error().unwrap_or(0)),
     }
-    unsent(os::errno())
 }
 
-// Writes what a program puts out, and then its report to another descriptor.
-pub fn write_both(to: i32, output: &[u8], aside: i32, report: &[u8]) -> Sent {
+// Writes what a program puts out, and then its report to another writer.
+pub fn write_both<W: Write, V: Write>(
+    to: &mut W,
+    output: &[u8],
+    aside: &mut V,
+    report: &[u8],
+) -> Sent {
     match write_out(to, output) {
         Sent::All => write_out(aside, report),
         Sent::Gone => Sent::Gone,
@@ -160,60 +175,155 @@ pub fn ended(sent: Sent, number: u8) -> Ending
     }
 }
 
-// ---- words, and the end
+// ---- what failed
 
-// Whether the program was started with words, which it does not take and are refused.
-pub fn has_words(usage: &[u8]) -> bool {
-    if os::arg_count() < 2 {
-        return false;
+impl<S> Watched<S> {
+    pub fn new(inner: S) -> Self
+        ensures inner { result.inner ≡ inner }
+        ensures error { result.error ≡ None }
+    {
+        Watched { inner, error: None }
     }
-    refuse_words(usage);
-    true
 }
 
-// Refuses words that the program does not take, with a line that says how it is used.
-pub fn refuse_words(usage: &[u8]) {
-    io::write_all(STDERR_FILENO, usage);
-    say_status(MISUSED);
+impl<R: Read> Read for Watched<R> {
+    ghost remaining = { λ w. R.remaining w.inner };
+
+    fn read(&mut self, buf: &mut [u8]) -> io::Result<usize>
+        ensures bound { ReadsAtMost result buf.new }
+        ensures bytes { ReadConsumes (R.remaining self.old.inner) (R.remaining self.new.inner) result buf.new }
+        ensures kept { IfErr result (λ e. self.new.error ≡ Some e) }
+        ensures unchanged { OnOk result (self.new.error ≡ self.old.error) }
+    {
+        match self.inner.read(buf) {
+            Ok(n) => Ok(n),
+            Err(e) => {
+                self.error = Some(e);
+                Err(e)
+            }
+        }
+    }
+}
+
+impl<W: Write> Write for Watched<W> {
+    ghost contents = { λ w. W.contents w.inner };
+
+    fn write(&mut self, buf: &[u8]) -> io::Result<usize>
+        ensures bound { WritesAtMost result buf.now }
+        ensures bytes { WriteAppends (W.contents self.old.inner) (W.contents self.new.inner) result buf.now }
+        ensures kept { IfErr result (λ e. self.new.error ≡ Some e) }
+        ensures unchanged { OnOk result (self.new.error ≡ self.old.error) }
+    {
+        match self.inner.write(buf) {
+            Ok(n) => Ok(n),
+            Err(e) => {
+                self.error = Some(e);
+                Err(e)
+            }
+        }
+    }
+
+    fn flush(&mut self) -> io::Result<()>
+        ensures bytes { Keeps (W.contents self.old.inner) (W.contents self.new.inner) }
+        ensures kept { IfErr result (λ e. self.new.error ≡ Some e) }
+        ensures unchanged { OnOk result (self.new.error ≡ self.old.error) }
+    {
+        match self.inner.flush() {
+            Ok(()) => Ok(()),
+            Err(e) => {
+                self.error = Some(e);
+                Err(e)
+            }
+        }
+    }
+
+    fn write_all(&mut self, buf: &[u8]) -> io::Result<()>
+        ensures bytes { OnOk result (Appends (W.contents self.old.inner) (W.contents self.new.inner) buf.now) }
+        ensures kept { IfErr result (λ e. self.new.error ≡ Some e) }
+        ensures unchanged { OnOk result (self.new.error ≡ self.old.error) }
+    {
+        match self.inner.write_all(buf) {
+            Ok(()) => Ok(()),
+            Err(e) => {
+                self.error = Some(e);
+                Err(e)
+            }
+        }
+    }
+}
+
+// ---- words, and the end
+
+// Whether the program was started with words, which it does not take and are refused; then its status.
+pub fn has_words<R: Env, W: Write>(rt: &R, to: &mut W, usage: &[u8]) -> Option<u8>
+    ensures { IfSome result (λ status. status ≡ misused) }
+{
+    let mut word = [0u8; 1];
+    if let Err(FillError::NotPresent) = rt.arg(1, &mut word) {
+        return None;
+    }
+    Some(refuse_words(to, usage))
+}
+
+// Refuses words that the program does not take, with a line that says how it is used; its status.
+pub fn refuse_words<W: Write>(to: &mut W, usage: &[u8]) -> u8
+    ensures { result ≡ misused }
+{
+    let _ = to.write_all(usage);
+    MISUSED
 }
 
 // Refuses what the program was given, with a number, which is its status.
-pub fn refuse(name: &[u8], number: u8) {
-    tell_refused(STDERR_FILENO, name, number);
-    say_status(number);
+pub fn refuse<W: Write>(to: &mut W, name: &[u8], number: u8) -> u8
+    ensures { result ≡ number }
+{
+    tell_refused(to, name, number);
+    number
 }
 
-// A line on a descriptor: the program's name, and the number that it refused with.
-pub fn tell_refused(to: i32, name: &[u8], number: u8) {
-    io::write_all(to, name);
-    io::write_all(to, b": refused with ");
-    io::print_decimal(to, number as u64);
-    io::write_all(to, b"\n");
+// A line: the program's name, and the number that it refused with.
+pub fn tell_refused<W: Write>(to: &mut W, name: &[u8], number: u8) {
+    let _ = to.write_all(name);
+    let _ = writeln!(to, ": refused with {number}");
 }
 
-// Says how the work of a program ended: a failure on standard error, and the status.
-pub fn finish(name: &[u8], ending: Ending) {
+// Says how the work of a program ended, a failure with its error; the status.
+pub fn finish<W: Write>(to: &mut W, name: &[u8], ending: Ending, error: Option<io::Error>) -> u8
+    ensures { result ≡ status_of ending }
+{
     match ending {
         Ending::Over(_) => {}
         Ending::Unheard => {}
-        Ending::NotRead => fail(name, b": standard input could not be read"),
-        Ending::NotWritten => fail(name, b": standard output could not be written"),
-        Ending::Spent => say(name, b": no turn is left\n"),
+        Ending::NotRead => fail(to, name, b": standard input could not be read", error),
+        Ending::NotWritten => fail(to, name, b": standard output could not be written", error),
+        Ending::Spent => say(to, name, b": no turn is left\n"),
     }
-    say_status(status_of(ending));
+    status_of(ending)
 }
 
-// On standard error: the program's name, and a text.
-fn say(name: &[u8], text: &[u8]) {
-    io::write_all(STDERR_FILENO, name);
-    io::write_all(STDERR_FILENO, text);
+// The program's name, and a text.
+fn say<W: Write>(to: &mut W, name: &[u8], text: &[u8]) {
+    let _ = to.write_all(name);
+    let _ = to.write_all(text);
 }
 
-// A line on standard error: the program's name, what failed, and the system's word for the last error. Nothing but the name is written between that
-// error and the word, and a write that succeeds leaves the word as it is.
-fn fail(name: &[u8], what: &[u8]) {
-    io::write_all(STDERR_FILENO, name);
-    os::fail(what);
+// A line: the program's name, what failed, and the system's words for the error.
+fn fail<W: Write>(to: &mut W, name: &[u8], what: &[u8], error: Option<io::Error>) {
+    say(to, name, what);
+    if let Some(e) = error {
+        let text: InlineText<256> = InlineText::of(e);
+        let _ = to.write_all(b": ");
+        let _ = to.write_all(words_of(text.as_str()).as_bytes());
+    }
+    let _ = to.write_all(b"\n");
+}
+
+// The system's words for an error, which come before its number.
+fn words_of(text: &str) -> &str {
+    match text.split_once(" (os error ") {
+        Some((words, _)) => words,
+        None => text,
+    }
 }
 
 // The status of a program whose work ended so.
@@ -227,9 +337,4 @@ pub fn status_of(ending: Ending) -> u8
         Ending::NotWritten => FAILED,
         Ending::Spent => FAILED,
     }
-}
-
-// Nothing happens where the descriptor is closed.
-fn say_status(status: u8) {
-    io::print_decimal(STATUS_FILENO, status as u64);
 }

@@ -16,7 +16,7 @@ use meaning::{Checked, Kind, LONGEST_CHUNK, Refusal};
 use segments::{MOST_SEGMENTS, PAYLOAD_BYTES, SEGMENT_HEADER_BYTES};
 
 // A slot's numbers; its bytes stand apart. An empty slot has zeros only, a spoiled one besides its mark.
-#[derive(Drop)]
+#[derive(Clone, Copy)]
 pub struct Slot {
     pub held: u16,
     pub last: u8,
@@ -24,7 +24,7 @@ pub struct Slot {
 }
 
 // What the desk answers to a segment.
-#[derive(Drop)]
+#[derive(Clone, Copy)]
 pub enum Answer {
     // accepted; so many are still missing
     Missing(u8),
@@ -34,7 +34,7 @@ pub enum Answer {
 }
 
 // An answer, with the slot afterwards.
-#[derive(Drop)]
+#[derive(Clone, Copy)]
 pub struct Gathered {
     pub slot: Slot,
     pub answer: Answer,
