@@ -122,12 +122,12 @@ module _ {version last : ℕ} where
   dues_from_lem g came [] s = refl
   dues_from_lem g came (d ∷ ds) s =
       let t = told_due g came d s in
-      ap₂ ◌∷◌ t.0 (dues_from_lem _ (d.number ∷ came) ds (stands_begun version last _ _ t.1))
+      ap₂ ◌∷◌ t.0 (dues_from_lem (told g d.bytes).gathering (d.number ∷ came) ds (stands_begun version last _ _ t.1))
 
   left_stands : (g : Gathering) (came : List ℕ) (ds : List (Delivery version last)) → Stands version last g came → Stands version last (left_by g (bytes_of ds)) (arrived came (numbers_of ds))
   unfolding left_by
   left_stands g came [] s = s
-  left_stands g came (d ∷ ds) s = left_stands _ (d.number ∷ came) ds (told_due g came d (stands_begun version last g came s)).1
+  left_stands g came (d ∷ ds) s = left_stands (told g d.bytes).gathering (d.number ∷ came) ds (told_due g came d (stands_begun version last g came s)).1
 
   -- ---- what is promised
 

@@ -8,7 +8,7 @@ ghost use Rattle.guides.specs.Gathering.{is_noted, noting, count_below, missing_
 use sections::{Refusal, Standing};
 
 // The numbers of the sections that were read: number n is bit n % 64 of word n / 64. Bits above the last number mean nothing.
-#[derive(Drop)]
+#[derive(Clone, Copy)]
 pub struct Gathering {
     pub version: u8,
     pub last: u8,
@@ -16,7 +16,7 @@ pub struct Gathering {
 }
 
 // What is answered to a section.
-#[derive(Drop)]
+#[derive(Clone, Copy)]
 pub enum Answer {
     // another table's
     NotOurs,
@@ -31,14 +31,14 @@ pub enum Answer {
 }
 
 // The answer, and the gathering afterwards.
-#[derive(Drop)]
+#[derive(Clone, Copy)]
 pub struct Told {
     pub answer: Answer,
     pub gathering: Gathering,
 }
 
 // An answer in numbers: its number, 0 where it is no refusal; whether it is not ours, not yet in force, or a repeat; how many are missing; the offset with 23.
-#[derive(Drop)]
+#[derive(Clone, Copy)]
 pub struct Values {
     pub number: u8,
     pub foreign: bool,

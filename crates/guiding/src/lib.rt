@@ -12,7 +12,7 @@ use guides::Gathering;
 use records::{Entry, Form, LENGTH_BYTES, MARK_BYTES};
 
 // After some records: the gathering, the next place of the file, and the next place of the output.
-#[derive(Drop)]
+#[derive(Clone, Copy)]
 pub struct Filled {
     pub gathering: Gathering,
     pub read: usize,
@@ -20,7 +20,7 @@ pub struct Filled {
 }
 
 // After a section: the gathering, and the next place of the output.
-#[derive(Drop)]
+#[derive(Clone, Copy)]
 struct Printed {
     gathering: Gathering,
     to: usize,

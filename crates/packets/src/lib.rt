@@ -7,7 +7,7 @@ ghost use Rattle.packets.specs.Packets.{longest_packet, is_carried, start_by, st
 ghost use Rattle.packets.specs.Stored.{stored_head, stored_head_bytes};
 
 // What some bytes are, as the start of a packet.
-#[derive(Drop)]
+#[derive(Clone, Copy)]
 pub enum Start {
     // one that is running, so far right
     Running,

@@ -7,7 +7,7 @@ ghost use Rattle.sections.specs.Walks.{place_of, descriptors, provider, provider
 ghost use Rattle.sections.specs.Reading.{is_ours, has_length, loops_standing, head_standing, standing, number_of, offset_of, is_in_force, name_count, name_in, name_place, Stands};
 
 // Why a section is refused: 20, 21, 22; 23 with the offset in the section of the first thing that runs past its end, or of the first byte left over.
-#[derive(Drop)]
+#[derive(Clone, Copy)]
 pub enum Refusal {
     BadLength,
     OtherProtocol,
@@ -16,7 +16,7 @@ pub enum Refusal {
 }
 
 // What a section is found to be.
-#[derive(Drop)]
+#[derive(Clone, Copy)]
 pub enum Standing {
     // another table's
     NotOurs,
@@ -27,7 +27,7 @@ pub enum Standing {
 }
 
 // Where something ends that is stepped over; or where the first thing of it begins that runs past the section's end.
-#[derive(Drop)]
+#[derive(Clone, Copy)]
 pub enum Walk {
     To(usize),
     Cut(usize),
@@ -270,7 +270,7 @@ pub fn name_count(section: &[u8]) -> usize
 }
 
 // Where a name stands in its section, and how long it is.
-#[derive(Drop)]
+#[derive(Clone, Copy)]
 pub struct Place {
     pub from: usize,
     pub length: usize,

@@ -10,7 +10,7 @@ use packets::{LONGEST_PACKET, SHORTEST_PACKET, STORED_HEAD_BYTES};
 use records::{Entry, Form};
 
 // What stands at a place of a store.
-#[derive(Drop)]
+#[derive(Clone, Copy)]
 pub enum Next {
     End,
     // a packet of so many bytes

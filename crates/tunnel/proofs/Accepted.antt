@@ -43,7 +43,7 @@ pub record Numbered (m : Numbers) (part outer : List ℕ) (sequence gap held : �
   pub start_is : start ≡ header_bytes + cond marked (offset_in outer) (length (payload_in outer))
 
 pub numbered : (m : Numbers) (part outer : List ℕ) (sequence gap held marker start : ℕ) → sequence ≡ sequence_in outer → gap ≡ gap_before m sequence → held ≡ length (part_of (reader m part)) → marker ≡ marker_in outer → start ≡ header_bytes + cond (eqb marker 1) (offset_in outer) (length (payload_in outer)) → Numbered m part outer sequence gap held (eqb marker 1) start
-numbered m part outer sequence gap held marker start s g h k t =
+numbered m part outer sequence gap' held marker start s g h k t =
     record { sequence_is = s; gap_is = g; held_is = h; marked_is = ap (λ (b : ℕ). eqb b 1) k; start_is = t }
 
 module _ (m : Numbers) (part outer out : List ℕ) (sequence gap' held : ℕ) (marked' : Bool) (start : ℕ) (n : Numbered m part outer sequence gap' held marked' start) where

@@ -13,7 +13,7 @@ use packets::{LONGEST_PACKET, STORED_HEAD_BYTES, Start};
 use rtp::HEADER_BYTES;
 
 // The reader's numbers: whether an outer packet was accepted, its sequence number, and how many bytes of a part packet are held.
-#[derive(Drop)]
+#[derive(Clone, Copy)]
 pub struct Numbers {
     pub begun: bool,
     pub last: u16,
@@ -21,7 +21,7 @@ pub struct Numbers {
 }
 
 // What the reader answers.
-#[derive(Drop)]
+#[derive(Clone, Copy)]
 pub enum Unwrapped {
     // so many bytes of stored packets stand at the start of the output, so many outer packets were left out before this one, and so many bytes are thrown
     // away
@@ -45,7 +45,7 @@ pub enum Unwrapped {
 
 // An answer in numbers: its number, 0 where it is no refusal; whether it is a repeat; the bytes stored; how many outer packets a gap left out; how many bytes are
 // thrown away.
-#[derive(Drop)]
+#[derive(Clone, Copy)]
 pub struct Values {
     pub number: u8,
     pub repeat: bool,
@@ -55,7 +55,7 @@ pub struct Values {
 }
 
 // The answer, and the numbers afterwards.
-#[derive(Drop)]
+#[derive(Clone, Copy)]
 pub struct Fed {
     pub answer: Unwrapped,
     pub numbers: Numbers,
@@ -95,7 +95,7 @@ fn told(number: u8, repeat: bool, stored: usize, gap: u16, lost: usize) -> Value
 }
 
 // What some bytes gave: the next place of the output, how many bytes are held, and how many are thrown away.
-#[derive(Drop)]
+#[derive(Clone, Copy)]
 struct Gained {
     to: usize,
     held: usize,

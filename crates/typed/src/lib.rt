@@ -15,7 +15,7 @@ use segments::{MOST_SEGMENTS, SEGMENT_BYTES};
 use writer::{SHORTEST_OUTPUT, Unwritten, Written};
 
 // What is answered to a text.
-#[derive(Drop)]
+#[derive(Clone, Copy)]
 pub enum Reply {
     // a log of so many bytes now stands at the start of the lent buffer
     Log(usize),

@@ -12,7 +12,7 @@ use rtp::HEADER_BYTES;
 
 // The writer's numbers: the payload size, the next sequence number, how many bytes are left, where in them a packet first begins, and the timestamp of the
 // first of them.
-#[derive(Drop)]
+#[derive(Clone, Copy)]
 pub struct Numbers {
     pub size: usize,
     pub next: u16,
@@ -22,7 +22,7 @@ pub struct Numbers {
 }
 
 // What the writer answers.
-#[derive(Drop)]
+#[derive(Clone, Copy)]
 pub enum Wrapped {
     // so many bytes of outer packets stand at the start of the output
     Wrote(usize),
@@ -35,14 +35,14 @@ pub enum Wrapped {
 }
 
 // An answer in numbers: its number, 0 where it is no refusal; and the bytes written.
-#[derive(Drop)]
+#[derive(Clone, Copy)]
 pub struct Values {
     pub number: u8,
     pub wrote: usize,
 }
 
 // The answer, and the numbers afterwards.
-#[derive(Drop)]
+#[derive(Clone, Copy)]
 pub struct Given {
     pub answer: Wrapped,
     pub numbers: Numbers,

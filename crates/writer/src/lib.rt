@@ -8,7 +8,7 @@ use meaning::{Kind, LONGEST_CHUNK};
 use segments::{MOST_SEGMENTS, PAYLOAD_BYTES, SEGMENT_BYTES};
 
 // Why the writer refuses, a variant for each of its numbers.
-#[derive(Drop)]
+#[derive(Clone, Copy)]
 pub enum Unwritten {
     ShortOutput,
     BadListing,
@@ -16,7 +16,7 @@ pub enum Unwritten {
 }
 
 // What the writer answers.
-#[derive(Drop)]
+#[derive(Clone, Copy)]
 pub enum Written {
     // so many segments now stand at the start of the output
     Segments(usize),

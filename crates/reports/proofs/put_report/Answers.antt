@@ -31,5 +31,5 @@ returns c = let a = c.args in
     let mark = a.mark.now in
     let words = said a.number a.repeat a.gap a.lost in
     let first = c.put_text-at in
-    let rest = put_four (text " ") (decimal a.n) words newline first.new.1.0 first.result c.put_text-space.ensures c.put_number-words.ensures c.put_said-end.ensures c.put_text.ensures in
+    let rest = put_four (text " ") (decimal a.n) words newline first.new.out first.result c.put_text-space.ensures c.put_number-words.ensures c.put_said-end.ensures c.put_text.ensures in
     put_same a.out.now a.to (report_some mark a.n words (sym c.is_silent.ensures ∙ c.if-is_silent.false)) (put_both mark (text " " ++ (decimal a.n ++ (words ++ newline))) a.out.now a.to first.ensures rest)

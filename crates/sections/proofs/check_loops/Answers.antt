@@ -3,25 +3,19 @@ use mathlib.Core.Path.{refl, sym, ◌∙◌}
 use borrow.Author.Tests.{lt-ltb, le-ltb}
 use Rattle.sections.proofs.Steps.{loops-within, loops_stand}
 use native.Mathlib.Omega.{arith}
-use borrow.Author.Rules.{rules}
 use Rattle.sections.proofs.check_loops.Goals as goal
 
 pub overflow_cast-at : goal.overflow_cast-at
-overflow_cast-at c = omega (arith, loops-within c.args.section.now _ c.requires.0 (sym c.end-1.given.1 ∙ c.step_loops.ensures))
+overflow_cast-at c = omega (arith, loops-within c.args.section.now _ c.requires.0 (sym c.in-To.is ∙ c.step_loops.ensures))
 
 pub returns-then-end-section : goal.returns-then-end-section
-returns-then-end-section c = sym (loops_stand c.args.section.now _ (sym c.end-1.given.1 ∙ c.step_loops.ensures) ∙ simp (lt-ltb _ _ c.if-end-section.true) refl)
+returns-then-end-section c = sym (loops_stand c.args.section.now _ (sym c.in-To.is ∙ c.step_loops.ensures) ∙ simp (lt-ltb _ _ c.if-end-section.true) refl)
 
 pub returns-else-end-section : goal.returns-else-end-section
-returns-else-end-section c = sym (loops_stand c.args.section.now _ (sym c.end-1.given.1 ∙ c.step_loops.ensures) ∙ simp (le-ltb _ _ c.if-end-section.false) refl)
+returns-else-end-section c = sym (loops_stand c.args.section.now _ (sym c.in-To.is ∙ c.step_loops.ensures) ∙ simp (le-ltb _ _ c.if-end-section.false) refl)
 
 pub returns-in-Cut : goal.returns-in-Cut
-returns-in-Cut c = sym (loops_stand c.args.section.now _ (sym c.place-1.given.1 ∙ c.step_loops.ensures))
+returns-in-Cut c = sym (loops_stand c.args.section.now _ (sym c.in-Cut.is ∙ c.step_loops.ensures))
 
--- left:
--- -- no goal: overflow-cast-at-2
--- cast-at-2 : tie.Need-overflow-cast-at-2
--- cast-at-2 c =
---     let called = c.before.before.before in
---     let s = called.before.before in
---     omega (arith, loops-within s.args.section.now _ s.requires.0 (sym c.before.place.given.1 ∙ called.step-loops.ensures))
+pub overflow_cast-at-in-Cut : goal.overflow_cast-at-in-Cut
+overflow_cast-at-in-Cut c = omega (arith, loops-within c.args.section.now _ c.requires.0 (sym c.in-Cut.is ∙ c.step_loops.ensures))

@@ -2,7 +2,6 @@
 use mathlib.Core.Path.{sym}
 use Rattle.sections.proofs.Steps.{length-short, length_over, length_told}
 use native.Mathlib.Omega.{arith}
-use borrow.Author.Rules.{rules}
 use Rattle.sections.proofs.has_length.Goals as goal
 
 pub returns-then-section-lt-HEAD_BYTES : goal.returns-then-section-lt-HEAD_BYTES

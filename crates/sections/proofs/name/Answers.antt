@@ -4,7 +4,6 @@ use Prim.Native.Nat.{ℕ, ◌+◌, ◌-◌}
 use lib.ListN.{take, drop}
 use Rattle.sections.specs.Reading.{name_place}
 use native.Mathlib.Omega.{arith}
-use borrow.Author.Rules.{rules}
 use Rattle.sections.proofs.name.Goals as goal
 
 pub returns : goal.returns
@@ -12,4 +11,7 @@ returns c = let a = c.args in
     let called = c.name_place-place in
     let size : called.result.from + called.result.length - called.result.from ≡ called.result.length = omega arith in
     let place : called.result.from + a.section.ref_ptr.1 ≡ a.section.ref_ptr.1 + name_place a.section.now a.n = omega (arith, called.ensures.begins) in
-    (ap (λ (k : ℕ). take k (drop called.result.from a.section.now)) size ∙ called.ensures.bytes, λ i. (a.section.ref_ptr.0, place i))
+    record {
+      result_value = ap (λ (k : ℕ). take k (drop called.result.from a.section.now)) size ∙ called.ensures.bytes;
+      ref_ptr_value = λ i. (a.section.ref_ptr.0, place i);
+    }

@@ -1,20 +1,15 @@
 -- `sections::name_count` meets its contract: a section in force has its head. Assumes nothing.
 use mathlib.Core.Path.{sym, ap, ◌∙◌}
-use borrow.Author.Tests.{not-true, not-false}
 use Rattle.sections.specs.Reading.{is_in_force}
-use Rattle.sections.proofs.Steps.{byte_wide, in_force_head, count_none, count_some}
+use Rattle.sections.proofs.Steps.{in_force_head, count_none, count_some}
 use native.Mathlib.Omega.{arith}
-use borrow.Author.Rules.{rules}
 use Rattle.sections.proofs.name_count.Goals as goal
 
 pub returns-then-not-is_in_force : goal.returns-then-not-is_in_force
-returns-then-not-is_in_force c = sym (count_none _ (ap is_in_force (sym c.check_section.ensures) ∙ sym c.is_in_force.ensures ∙ not-true _ c.if-not-is_in_force.true))
+returns-then-not-is_in_force c = sym (count_none _ (ap is_in_force (sym c.check_section.ensures) ∙ sym c.is_in_force.ensures ∙ c.if-not-is_in_force.true))
 
 pub bounds-section-8 : goal.bounds-section-8
-bounds-section-8 c = omega (arith, in_force_head _ (ap is_in_force (sym c.check_section.ensures) ∙ sym c.is_in_force.ensures ∙ not-false _ c.if-not-is_in_force.false))
-
-pub overflow_cast-result : goal.overflow_cast-result
-overflow_cast-result c = record { fits = byte_wide (c.shared_slice_known-2-1.given _).fits }
+bounds-section-8 c = omega (arith, in_force_head _ (ap is_in_force (sym c.check_section.ensures) ∙ sym c.is_in_force.ensures ∙ c.if-not-is_in_force.false))
 
 pub returns : goal.returns
-returns c = sym (count_some _ (ap is_in_force (sym c.check_section.ensures) ∙ sym c.is_in_force.ensures ∙ not-false _ c.if-not-is_in_force.false))
+returns c = sym (count_some _ (ap is_in_force (sym c.check_section.ensures) ∙ sym c.is_in_force.ensures ∙ c.if-not-is_in_force.false))

@@ -1,9 +1,9 @@
 -- `sections::step_descriptors` meets its contract: the walk over what is left, from here on, is the walk asked for. Assumes nothing.
-use mathlib.Core.Path.{◌≡◌, refl, sym, ◌∙◌}
+use mathlib.Core.Path.{refl, sym, ◌∙◌}
 use Prim.Native.Nat.{◌+◌, ◌≤◌}
 use lib.ListN.{length}
-use Rattle.sections.specs.Walks.{descriptor_bytes, descriptors}
-use Rattle.sections.proofs.Steps.{byte_wide, none_left, descriptor_cut, descriptor_fits}
+use Rattle.sections.specs.Walks.{descriptor_bytes}
+use Rattle.sections.proofs.Steps.{none_left, descriptor_cut, descriptor_fits}
 use native.Mathlib.Omega.{arith}
 use Rattle.sections.proofs.step_descriptors.Goals as goal
 
@@ -14,9 +14,6 @@ pub returns-then-room-lt2 : goal.returns-then-room-lt2
 returns-then-room-lt2 c = let a = c.args in
     let l = c.loop-left in
     sym (descriptor_cut a.section.now l.at l.left c.loop-left-test.true (omega arith)) ∙ l.invariant.1
-
-pub overflow_cast-size : goal.overflow_cast-size
-overflow_cast-size c = record { fits = byte_wide (c.shared_slice_known-1.given _).fits }
 
 pub returns-then-room-size : goal.returns-then-room-size
 returns-then-room-size c = let a = c.args in

@@ -1,9 +1,7 @@
-use mathlib.Core.Path.{◌≡◌, refl, sym, ◌∙◌}
-use Prim.Native.Nat.{◌+◌, ◌≤◌}
+use mathlib.Core.Path.{◌≡◌}
+use Prim.Native.Nat.{◌≤◌}
 use lib.ListN.{length}
-use Rattle.sections.specs.Walks.{descriptor_bytes, descriptors}
-use Rattle.sections.proofs.Steps.{byte_wide, none_left, descriptor_cut, descriptor_fits}
-use native.Mathlib.Omega.{arith}
+use Rattle.sections.specs.Walks.{descriptors}
 use Rattle.sections.proofs.step_descriptors.Given as goal
 
 abbrev pub invariant-loop-left : goal.invariant-loop-left

@@ -4,16 +4,12 @@ use mathlib.Core.List.{List}
 use Prim.Native.Nat.{ℕ, ◌+◌, ◌≤◌}
 use lib.ListN.{length, get_or}
 use Rattle.sections.specs.declared.Walk.TheVariants.{Cut}
-use Rattle.sections.proofs.Steps.{byte_wide, counted-cut, counted-fits, name_none, name-cut, name-fits}
+use Rattle.sections.proofs.Steps.{counted-cut, counted-fits, name_none, name-cut, name-fits}
 use native.Mathlib.Omega.{arith}
-use borrow.Author.Rules.{rules}
 use Rattle.sections.proofs.step_provider.Goals as goal
 
 pub returns-then-end-start : goal.returns-then-end-start
 returns-then-end-start c = sym (name_none c.args.section.now c.args.start c.requires.0 c.if-end-start.true)
-
-pub overflow_cast-size : goal.overflow_cast-size
-overflow_cast-size c = record { fits = byte_wide (c.shared_slice_known-2-1.given _).fits }
 
 pub returns-then-end-text : goal.returns-then-end-text
 returns-then-end-text c = sym (name-cut c.args.section.now c.args.start (omega (arith, c.if-end-text.true)))
@@ -23,9 +19,6 @@ returns-then-end-at c = let xs : List ℕ = c.args.section.now in
     let fits : c.args.start + 1 + get_or xs c.args.start 0 ≤ length xs = omega (arith, c.if-end-text.false, c.if-end-start.false) in
     let end : c.args.start + 1 + get_or xs c.args.start 0 ≡ length xs = omega arith in
     sym (name-fits xs c.args.start fits ∙ counted-cut xs _ c.if-end-at.true ∙ ap Cut end)
-
-pub overflow_cast-count : goal.overflow_cast-count
-overflow_cast-count c = record { fits = byte_wide (c.shared_slice_known-3-1.given _).fits }
 
 pub returns : goal.returns
 returns c = let xs : List ℕ = c.args.section.now in

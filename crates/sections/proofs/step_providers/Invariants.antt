@@ -1,10 +1,7 @@
-use mathlib.Core.Path.{◌≡◌, refl, sym, ◌∙◌}
+use mathlib.Core.Path.{◌≡◌}
 use Prim.Native.Nat.{◌≤◌}
 use lib.ListN.{length}
 use Rattle.sections.specs.Walks.{providers}
-use Rattle.sections.proofs.Steps.{no_provider, provider-cut, provider_next, provider-within}
-use borrow.Author.Rules.{rules}
-use native.Mathlib.Omega.{arith}
 use Rattle.sections.proofs.step_providers.Given as goal
 
 abbrev pub invariant-loop-left : goal.invariant-loop-left
