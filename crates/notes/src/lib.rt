@@ -11,7 +11,7 @@ use slots::{Answer, Slot};
 
 // The desk's numbers: the slots, the lengths of the listings for this frame and for the next (0 is none), and whether the second buffer
 // serves this frame.
-#[derive(Drop)]
+#[derive(Clone, Copy)]
 pub struct Notes {
     pub this: Slot,
     pub next: Slot,
