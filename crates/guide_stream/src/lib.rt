@@ -1,7 +1,8 @@
 // A file of sections from a reader, its lines to a writer, in blocks. What is printed is decided by `guiding`; here bytes are moved.
 #![tactic(auto)]
 
-ghost use Rattle.std.specs.Prelude.{T, ◌≤◌, length};
+ghost use Rattle.std.specs.Prelude.{◌≡◌, T, ◌≤◌, length};
+ghost use Rattle.octets.specs.Bits.{Bytes};
 ghost use Rattle.octets.specs.Checks.{among};
 ghost use Rattle.records.specs.Records.{entry_in};
 ghost use Rattle.records.specs.Transcripts.{filled};
@@ -23,6 +24,15 @@ struct Turned {
     unread: Unread,
 }
 
+// What is unread of a block, which is bytes.
+fn unread(block: &[u8], at: usize, have: usize) -> &[u8]
+    requires { (at ≤ have) × (have ≤ length block.now) }
+    ensures part { result.now ≡ Blocks·unread block.now at have }
+    ensures bytes { Bytes result.now }
+{
+    &block[at..have]
+}
+
 // One turn: prints the lines of the records at the start of what is unread, as many as the output has room for, and goes on behind them.
 fn turn<R: Read, W: Write>(
     g: Gathering,
@@ -36,7 +46,7 @@ fn turn<R: Read, W: Write>(
     requires { (at ≤ have) × (have ≤ length block.old) × (longest_record ≤ length block.old) }
     ensures { TurnSays guide_form (filled guide_program (length out.old) g (Blocks·unread block.old at have)) block.old at have out.old result.gathering block.new out.new result.wrote result.unread }
 {
-    let f = guiding::fill(g, &block[at..have], out);
+    let f = guiding::fill(g, unread(block, at, have), out);
     let after = f.gathering;
     let wrote = f.wrote;
     let next = at + f.read;
