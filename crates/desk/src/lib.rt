@@ -13,7 +13,7 @@ use notes::Notes;
 use slots::Answer;
 
 // The desk: its numbers, and the bytes of the two slots, those for this frame first.
-#[derive(Drop)]
+#[derive(Clone, Copy)]
 pub struct Desk {
     pub notes: Notes,
     pub bytes: [u8; 1120],
@@ -22,14 +22,14 @@ pub struct Desk {
 pub const BYTES: usize = 2 * LONGEST_CHUNK;
 
 // An answer to a segment, with the desk afterwards.
-#[derive(Drop)]
+#[derive(Clone, Copy)]
 pub struct Taken {
     pub answer: Answer,
     pub desk: Desk,
 }
 
 // The same, with the desk's numbers only: its bytes were changed in place.
-#[derive(Drop)]
+#[derive(Clone, Copy)]
 pub struct Driven {
     pub answer: Answer,
     pub notes: Notes,

@@ -19,7 +19,7 @@ use Rattle.slots.specs.declared.Answer.TheVariants.{Missing, NewList, Refused}
 use Rattle.segments.specs.Segment.{segment_kind, segment_checks, number_in}
 use Rattle.octets.specs.Sets.{holds}
 use Rattle.slots.specs.Slots.{missing_in, clashing}
-use Rattle.slots.specs.Gathering.{Side, side, Outcome, hold, chunk_in, kind_checks, judged, completed, gathered}
+use Rattle.slots.specs.Gathering.{Side, Outcome, hold, chunk_in, kind_checks, judged, completed, gathered}
 use Rattle.slots.proofs.Keeps.{empty-fits, gathered-fits}
 use Rattle.notes.specs.Notes.{length_fits, length_for, other_kind, length_after}
 use Rattle.notes.proofs.Roles.{both_roles}
