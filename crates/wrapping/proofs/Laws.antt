@@ -211,6 +211,6 @@ next_size : (n : ℕ) (s : State) (r : Record) → s.writer.numbers.size ≡ n �
 next_size n s r e = either (is_stamp r) (λ t. rw t e) (λ t. rw t (write-size s.writer (body_in r) s.stamp long_output ∙ e))
 
 pub turned-size : (s : State) (file : List ℕ) (at : ℕ) (out : List ℕ) (to : ℕ) (report : List ℕ) (told : ℕ) (t : State) (read : ℕ) (out' : List ℕ) (to' : ℕ) (report' : List ℕ) (told' : ℕ) → Turns wrap_channels s (drop at file) at out to report told t read out' to' report' told' → t.writer.numbers.size ≡ s.writer.numbers.size
-turned-size s file at out to report told t read out' to' report' told' turn =
+turned-size s file at out to report told₀ t read out' to' report' told' turn =
     let n : ℕ = s.writer.numbers.size in
     turned_keeps (output_of wrap_channels) file out out' at to read to' s t (turn.left, turn.place, turn.stores) (λ x. x.writer.numbers.size ≡ n) (next_size n) refl
