@@ -13,7 +13,7 @@ use Rattle.octets.specs.Bits.{Bytes}
 use Rattle.octets.specs.Same.{same}
 use Rattle.octets.specs.Sets.{holds}
 use Rattle.octets.specs.Checks.{check}
-use Rattle.octets.specs.Tables.{before, number_at}
+use Rattle.octets.specs.Tables.{number_at}
 use Rattle.octets.proofs.Laws.{either, get_d_byte}
 use Rattle.octets.proofs.Tables.{number_in-byte}
 use Rattle.meaning.specs.declared.Refusal.TheVariants.{Clash}
