@@ -1,15 +1,22 @@
 // Prints what a recorded log says, each refusal with the field at fault, and what is wrong with a chunk: explain < FILE
 #![tactic(auto)]
 
-use libc::{STDIN_FILENO, STDOUT_FILENO};
+use manners::Watched;
+use std::process::ExitCode;
 
-fn main() {
-    if manners::has_words(
+fn main(rt: HostRuntime) -> ExitCode {
+    let mut aside = rt.stderr();
+    if let Some(status) = manners::has_words(
+        &rt,
+        &mut aside,
         b"explain: takes no words; put < before a file's name: explain < my.log\n",
     ) {
-        return;
+        return ExitCode::from(status);
     }
+    let mut from = Watched::new(rt.stdin());
+    let mut to = Watched::new(rt.stdout());
     let mut block = [0u8; 131072];
-    let ending = explain_stream::copy(STDIN_FILENO, STDOUT_FILENO, &mut block);
-    manners::finish(b"explain", ending);
+    let ending = explain_stream::copy(&mut from, &mut to, &mut block);
+    let error = from.error.or(to.error);
+    ExitCode::from(manners::finish(&mut aside, b"explain", ending, error))
 }

@@ -2,43 +2,36 @@
 // large one.
 #![tactic(auto)]
 
-use libc::STDOUT_FILENO;
+use std::io::Write;
+use std::rt::Files;
+use std::{env, io};
 
-fn run_slowly(name: &[u8]) {
-    let file = samples::open(name, 65539, b"\n");
-    if file < 0 {
-        return;
+fn run_slowly<R: Files + Eprint, W: Write>(rt: &R, to: &mut W, name: &str) {
+    if let Some(mut file) = samples::open(rt, to, name, 65539, b"\n") {
+        let mut block = [0u8; 65539];
+        let ending = guide_stream::copy_slowly(&mut file, to, &mut block);
+        samples::end(to, ending);
     }
-    let mut block = [0u8; 65539];
-    samples::end(guide_stream::copy_slowly(file, STDOUT_FILENO, &mut block));
-    libc::close(file);
 }
 
-fn run(name: &[u8]) {
-    let file = samples::open(name, 131072, b"\n");
-    if file < 0 {
-        return;
+fn run<R: Files + Eprint, W: Write>(rt: &R, to: &mut W, name: &str) {
+    if let Some(mut file) = samples::open(rt, to, name, 131072, b"\n") {
+        let mut block = [0u8; 131072];
+        let ending = guide_stream::copy(&mut file, to, &mut block);
+        samples::end(to, ending);
     }
-    let mut block = [0u8; 131072];
-    samples::end(guide_stream::copy(file, STDOUT_FILENO, &mut block));
-    libc::close(file);
 }
 
-// The file that one argument names; false where there is none.
-fn run_named(index: usize) -> bool {
-    let mut name = io::buffer();
-    let length = os::arg(index, &mut name);
-    if os::errno() != 0 {
-        return false;
-    }
-    run_slowly(&name[..length]);
-    run(&name[..length]);
-    true
+// The file that one argument names.
+fn run_named<R: Files + Eprint, W: Write>(rt: &R, to: &mut W, name: &str) {
+    run_slowly(rt, to, name);
+    run(rt, to, name);
 }
 
-fn main() {
-    let mut index = 1;
-    while index < 64 && run_named(index) {
-        index += 1;
+fn main(rt: HostRuntime) -> io::Result<()> {
+    let mut to = rt.stdout();
+    for name in env::args(&rt)?.skip(1) {
+        run_named(&rt, &mut to, name.as_str());
     }
+    Ok(())
 }

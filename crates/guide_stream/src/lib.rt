@@ -1,4 +1,4 @@
-// A file of sections from one descriptor, its lines to another, in blocks. What is printed is decided by `guiding`; here bytes are moved.
+// A file of sections from a reader, its lines to a writer, in blocks. What is printed is decided by `guiding`; here bytes are moved.
 #![tactic(auto)]
 
 ghost use Rattle.std.specs.Prelude.{T, ◌≤◌, length};
@@ -13,6 +13,7 @@ ghost use Rattle.guiding.specs.Guiding.{guide_form, longest_record, guide_progra
 use blocks::{Ended, Step, Unread};
 use guides::Gathering;
 use manners::Ending;
+use std::io::{Read, Write};
 
 // After a turn: the gathering, how much was put to the output, and what is unread.
 #[derive(Drop)]
@@ -23,14 +24,14 @@ struct Turned {
 }
 
 // One turn: prints the lines of the records at the start of what is unread, as many as the output has room for, and goes on behind them.
-fn turn(
+fn turn<R: Read, W: Write>(
     g: Gathering,
     block: &mut [u8],
     at: usize,
     have: usize,
     out: &mut [u8],
-    from: i32,
-    to: i32,
+    from: &mut R,
+    to: &mut W,
 ) -> Turned
     requires { (at ≤ have) × (have ≤ length block.old) × (longest_record ≤ length block.old) }
     ensures { TurnSays guide_form (filled guide_program (length out.old) g (Blocks·unread block.old at have)) block.old at have out.old result.gathering block.new out.new result.wrote result.unread }
@@ -50,7 +51,7 @@ fn turn(
 }
 
 // Prints the lines of a file, from an empty gathering on.
-fn run(block: &mut [u8], out: &mut [u8], from: i32, to: i32) -> Ended
+fn run<R: Read, W: Write>(block: &mut [u8], out: &mut [u8], from: &mut R, to: &mut W) -> Ended
     requires { (longest_lines ≤ length out.old) × (longest_record ≤ length block.old) }
     ensures { Ends result.ending result.turns (entry_in guide_form (Blocks·unread block.new result.at result.have)) out.new }
 {
@@ -75,17 +76,17 @@ fn run(block: &mut [u8], out: &mut [u8], from: i32, to: i32) -> Ended
     blocks::finish(Step::Next, last, turns, at, have, out, to)
 }
 
-fn print(from: i32, to: i32, block: &mut [u8]) -> Ending
+fn print<R: Read, W: Write>(from: &mut R, to: &mut W, block: &mut [u8]) -> Ending
     requires { longest_record ≤ length block.old }
     ensures { T (among run_statuses (status_of result)) }
 {
-    let mut out = io::large_buffer();
+    let mut out = [0u8; 65536];
     let e = run(block, &mut out, from, to);
     e.ending
 }
 
 // Prints the lines of a file of sections, reading it through the lent block.
-pub fn copy(from: i32, to: i32, block: &mut [u8; 131072]) -> Ending
+pub fn copy<R: Read, W: Write>(from: &mut R, to: &mut W, block: &mut [u8; 131072]) -> Ending
     ensures { T (among run_statuses (status_of result)) }
 {
     let all: &mut [u8] = block;
@@ -93,7 +94,7 @@ pub fn copy(from: i32, to: i32, block: &mut [u8; 131072]) -> Ending
 }
 
 // The same through a block that holds one of the longest records and no more, as a file that comes slowly is read.
-pub fn copy_slowly(from: i32, to: i32, block: &mut [u8; 65539]) -> Ending
+pub fn copy_slowly<R: Read, W: Write>(from: &mut R, to: &mut W, block: &mut [u8; 65539]) -> Ending
     ensures { T (among run_statuses (status_of result)) }
 {
     let all: &mut [u8] = block;

@@ -1,13 +1,22 @@
 // Prints what a recorded log says, record by record: log < FILE
 #![tactic(auto)]
 
-use libc::{STDIN_FILENO, STDOUT_FILENO};
+use manners::Watched;
+use std::process::ExitCode;
 
-fn main() {
-    if manners::has_words(b"log: takes no words; put < before a file's name: log < my.log\n") {
-        return;
+fn main(rt: HostRuntime) -> ExitCode {
+    let mut aside = rt.stderr();
+    if let Some(status) = manners::has_words(
+        &rt,
+        &mut aside,
+        b"log: takes no words; put < before a file's name: log < my.log\n",
+    ) {
+        return ExitCode::from(status);
     }
-    let mut block = io::large_buffer();
-    let ending = stream::copy(STDIN_FILENO, STDOUT_FILENO, &mut block);
-    manners::finish(b"log", ending);
+    let mut from = Watched::new(rt.stdin());
+    let mut to = Watched::new(rt.stdout());
+    let mut block = [0u8; 65536];
+    let ending = stream::copy(&mut from, &mut to, &mut block);
+    let error = from.error.or(to.error);
+    ExitCode::from(manners::finish(&mut aside, b"log", ending, error))
 }

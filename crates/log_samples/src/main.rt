@@ -1,43 +1,36 @@
 // Prints the transcript of each stored log that the arguments name, and the status, twice: read in blocks of one record, and in large ones.
 #![tactic(auto)]
 
-use libc::STDOUT_FILENO;
+use std::io::Write;
+use std::rt::Files;
+use std::{env, io};
 
-fn run_slowly(name: &[u8]) {
-    let log = samples::open(name, 39, b"\n");
-    if log < 0 {
-        return;
+fn run_slowly<R: Files + Eprint, W: Write>(rt: &R, to: &mut W, name: &str) {
+    if let Some(mut log) = samples::open(rt, to, name, 39, b"\n") {
+        let mut block = [0u8; 39];
+        let ending = stream::copy_slowly(&mut log, to, &mut block);
+        samples::end(to, ending);
     }
-    let mut block = [0u8; 39];
-    samples::end(stream::copy_slowly(log, STDOUT_FILENO, &mut block));
-    libc::close(log);
 }
 
-fn run(name: &[u8]) {
-    let log = samples::open(name, 65536, b"\n");
-    if log < 0 {
-        return;
+fn run<R: Files + Eprint, W: Write>(rt: &R, to: &mut W, name: &str) {
+    if let Some(mut log) = samples::open(rt, to, name, 65536, b"\n") {
+        let mut block = [0u8; 65536];
+        let ending = stream::copy(&mut log, to, &mut block);
+        samples::end(to, ending);
     }
-    let mut block = io::large_buffer();
-    samples::end(stream::copy(log, STDOUT_FILENO, &mut block));
-    libc::close(log);
 }
 
-// The log that one argument names; false where there is none.
-fn run_named(index: usize) -> bool {
-    let mut name = io::buffer();
-    let length = os::arg(index, &mut name);
-    if os::errno() != 0 {
-        return false;
-    }
-    run_slowly(&name[..length]);
-    run(&name[..length]);
-    true
+// The log that one argument names.
+fn run_named<R: Files + Eprint, W: Write>(rt: &R, to: &mut W, name: &str) {
+    run_slowly(rt, to, name);
+    run(rt, to, name);
 }
 
-fn main() {
-    let mut index = 1;
-    while index < 64 && run_named(index) {
-        index += 1;
+fn main(rt: HostRuntime) -> io::Result<()> {
+    let mut to = rt.stdout();
+    for name in env::args(&rt)?.skip(1) {
+        run_named(&rt, &mut to, name.as_str());
     }
+    Ok(())
 }

@@ -254,12 +254,20 @@ impl<W: Write> Write for Watched<W> {
 
 // ---- words, and the end
 
+// Whether the program was started with so many words.
+pub fn has_word<R: Env>(rt: &R, number: usize) -> bool {
+    let mut start = [0u8; 1];
+    match rt.arg(number, &mut start) {
+        Err(FillError::NotPresent) => false,
+        _ => true,
+    }
+}
+
 // Whether the program was started with words, which it does not take and are refused; then its status.
 pub fn has_words<R: Env, W: Write>(rt: &R, to: &mut W, usage: &[u8]) -> Option<u8>
     ensures { IfSome result (λ status. status ≡ misused) }
 {
-    let mut word = [0u8; 1];
-    if let Err(FillError::NotPresent) = rt.arg(1, &mut word) {
+    if !has_word(rt, 1) {
         return None;
     }
     Some(refuse_words(to, usage))

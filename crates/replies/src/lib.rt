@@ -1,4 +1,4 @@
-// The answer to what is typed to the program `write`, put out: its log to one descriptor; where there is none, the reason to another.
+// The answer to what is typed to the program `write`, put out: its log to one writer; where there is none, the reason to another.
 #![tactic(auto)]
 
 ghost use Rattle.std.specs.Prelude.{◌≡◌, T};
@@ -8,11 +8,12 @@ ghost use Rattle.octets.specs.Checks.{among};
 ghost use Rattle.manners.specs.Manners.{status_of, EndsWriting};
 
 use manners::{Ending, FAILED, MISUSED};
+use std::io::{Read, Write};
 use typed::{LONGEST_LOG, Reply};
 use writer::Unwritten;
 
 // Puts out a log.
-fn put(to: i32, log: &[u8]) -> Ending
+fn put<W: Write>(to: &mut W, log: &[u8]) -> Ending
     ensures { EndsWriting 0 result }
 {
     let sent = manners::write_out(to, log);
@@ -20,7 +21,7 @@ fn put(to: i32, log: &[u8]) -> Ending
 }
 
 // Puts out the writer's refusal.
-fn refuse(reasons: i32, refusal: Unwritten) -> Ending
+fn refuse<W: Write>(reasons: &mut W, refusal: Unwritten) -> Ending
     ensures { result ≡ Ending.Over (unwritten_number refusal) }
 {
     let number = writer::unwritten_number(refusal);
@@ -29,15 +30,15 @@ fn refuse(reasons: i32, refusal: Unwritten) -> Ending
 }
 
 // Puts out another reason.
-fn say(reasons: i32, line: &[u8], status: u8) -> Ending
+fn say<W: Write>(reasons: &mut W, line: &[u8], status: u8) -> Ending
     ensures { result ≡ Ending.Over status }
 {
-    io::write_all(reasons, line);
+    let _ = reasons.write_all(line);
     Ending::Over(status)
 }
 
 // Puts out the answer to a text; how that ended.
-fn answer(text: &[u8], to: i32, reasons: i32) -> Ending
+fn answer<W: Write, V: Write>(text: &[u8], to: &mut W, reasons: &mut V) -> Ending
     ensures { RepliesEnd (replied text.now) result }
 {
     let mut log = [0u8; LONGEST_LOG];
@@ -55,10 +56,10 @@ fn answer(text: &[u8], to: i32, reasons: i32) -> Ending
 }
 
 // Reads a text, and puts out the answer to it; how that ended.
-pub fn reply(from: i32, to: i32, reasons: i32) -> Ending
+pub fn reply<R: Read, W: Write, V: Write>(from: &mut R, to: &mut W, reasons: &mut V) -> Ending
     ensures { T (among reply_statuses (status_of result)) }
 {
-    let mut text = io::large_buffer();
+    let mut text = [0u8; 65536];
     let took = manners::read_full(from, &mut text);
     if took.failed {
         return Ending::NotRead;

@@ -1,4 +1,4 @@
-// A log from one descriptor, its transcript to another, in blocks. What is printed is decided by `replay`; here bytes are moved.
+// A log from a reader, its transcript to a writer, in blocks. What is printed is decided by `replay`; here bytes are moved.
 #![tactic(auto)]
 
 ghost use Rattle.std.specs.Prelude.{T, ◌≤◌, length};
@@ -17,6 +17,7 @@ use desk::Desk;
 use manners::Ending;
 use meaning::LONGEST_LISTING;
 use notes::Notes;
+use std::io::{Read, Write};
 
 // After a turn: the desk's numbers, how much was put to the output, and what is unread.
 #[derive(Drop)]
@@ -27,7 +28,7 @@ struct Turned {
 }
 
 // One turn: prints the records at the start of what is unread, as many as the output has room for, and goes on behind them.
-fn turn(
+fn turn<R: Read, W: Write>(
     notes: Notes,
     bytes: &mut [u8],
     first: &mut [u8],
@@ -36,8 +37,8 @@ fn turn(
     at: usize,
     have: usize,
     out: &mut [u8],
-    from: i32,
-    to: i32,
+    from: &mut R,
+    to: &mut W,
 ) -> Turned
     requires ready { Ready (state (Desks·desk notes bytes.old) first.old second.old) }
     requires at_le_have { (at ≤ have) × (have ≤ length block.old) × (longest_record ≤ length block.old) }
@@ -58,15 +59,15 @@ fn turn(
 }
 
 // Prints the transcript of a log, from a well formed desk whose bytes are lent in place.
-fn run(
+fn run<R: Read, W: Write>(
     notes: Notes,
     bytes: &mut [u8],
     first: &mut [u8],
     second: &mut [u8],
     block: &mut [u8],
     out: &mut [u8],
-    from: i32,
-    to: i32,
+    from: &mut R,
+    to: &mut W,
 ) -> Ended
     requires ready { Ready (state (Desks·desk notes bytes.old) first.old second.old) }
     requires longest_lines_in_bounds { (longest_lines ≤ length out.old) × (longest_record ≤ length block.old) }
@@ -94,7 +95,7 @@ fn run(
 }
 
 // Prints the transcript of a log, from a fresh desk.
-fn print(from: i32, to: i32, block: &mut [u8]) -> Ending
+fn print<R: Read, W: Write>(from: &mut R, to: &mut W, block: &mut [u8]) -> Ending
     requires { longest_record ≤ length block.old }
     ensures { T (among run_statuses (status_of result)) }
 {
@@ -103,7 +104,7 @@ fn print(from: i32, to: i32, block: &mut [u8]) -> Ending
     let mut bytes = fresh.bytes;
     let mut first = [0u8; LONGEST_LISTING];
     let mut second = [0u8; LONGEST_LISTING];
-    let mut out = io::large_buffer();
+    let mut out = [0u8; 65536];
     let e = run(
         notes,
         &mut bytes,
@@ -118,7 +119,7 @@ fn print(from: i32, to: i32, block: &mut [u8]) -> Ending
 }
 
 // Prints the transcript of a log, reading it through the lent block.
-pub fn copy(from: i32, to: i32, block: &mut [u8; 65536]) -> Ending
+pub fn copy<R: Read, W: Write>(from: &mut R, to: &mut W, block: &mut [u8; 65536]) -> Ending
     ensures { T (among run_statuses (status_of result)) }
 {
     let all: &mut [u8] = block;
@@ -126,7 +127,7 @@ pub fn copy(from: i32, to: i32, block: &mut [u8; 65536]) -> Ending
 }
 
 // The same through a block that holds one segment's record and no more, as a log that comes slowly is read.
-pub fn copy_slowly(from: i32, to: i32, block: &mut [u8; 39]) -> Ending
+pub fn copy_slowly<R: Read, W: Write>(from: &mut R, to: &mut W, block: &mut [u8; 39]) -> Ending
     ensures { T (among run_statuses (status_of result)) }
 {
     let all: &mut [u8] = block;

@@ -1,33 +1,32 @@
-// What the programs that run the samples print with, on standard output.
+// What the programs that run the samples print with.
 #![tactic(auto)]
 
-use libc::STDOUT_FILENO;
 use meaning::{Kind, Refusal};
+use std::io::Write;
 
-pub fn say(text: &[u8]) {
-    io::write_all(STDOUT_FILENO, text);
+pub fn say<W: Write>(to: &mut W, text: &[u8]) {
+    let _ = to.write_all(text);
 }
 
 // A space and a number.
-pub fn say_number(n: u64) {
-    say(b" ");
-    io::print_decimal(STDOUT_FILENO, n);
+pub fn say_number<W: Write>(to: &mut W, n: u64) {
+    let _ = write!(to, " {n}");
 }
 
 // A refusal's number, and behind 9 its offset.
-pub fn say_refusal(refusal: Refusal) {
+pub fn say_refusal<W: Write>(to: &mut W, refusal: Refusal) {
     let number = meaning::number_of(refusal);
-    say_number(number as u64);
+    say_number(to, number as u64);
     if number == 9 {
-        say(b" at");
-        say_number(meaning::offset_of(refusal) as u64);
+        say(to, b" at");
+        say_number(to, meaning::offset_of(refusal) as u64);
     }
 }
 
-pub fn say_kind(kind: Kind) {
+pub fn say_kind<W: Write>(to: &mut W, kind: Kind) {
     match kind {
-        Kind::This => say(b" this"),
-        Kind::Next => say(b" next"),
+        Kind::This => say(to, b" this"),
+        Kind::Next => say(to, b" next"),
     }
 }
 
@@ -36,11 +35,11 @@ fn wide(byte: u8) -> u64 {
 }
 
 // The first bytes of a buffer, in hex.
-pub fn say_hex(buffer: &[u8], length: usize) {
+pub fn say_hex<W: Write>(to: &mut W, buffer: &[u8], length: usize) {
     let mut i = 0;
     while i < length {
         if i < buffer.len() {
-            io::print_hex(STDOUT_FILENO, wide(buffer[i]), 2);
+            let _ = write!(to, "{:02x}", wide(buffer[i]));
         }
         i += 1;
     }
@@ -59,10 +58,10 @@ pub fn kept(buffer: &[u8], from: usize, before: u8) -> bool {
 }
 
 // Says so, and ends the line.
-pub fn say_kept(buffer: &[u8], from: usize, before: u8) {
+pub fn say_kept<W: Write>(to: &mut W, buffer: &[u8], from: usize, before: u8) {
     if kept(buffer, from, before) {
-        say(b" kept\n");
+        say(to, b" kept\n");
     } else {
-        say(b" CHANGED\n");
+        say(to, b" CHANGED\n");
     }
 }

@@ -1,37 +1,31 @@
 // Runs what the program `write` does on each stored text that the arguments name, the reasons on standard output too, and the status.
 #![tactic(auto)]
 
-use libc::STDOUT_FILENO;
+use std::io::{Stdout, Write};
+use std::rt::Files;
+use std::{env, io};
 
 // The answer to the text of a file.
-fn run(name: &[u8]) {
-    samples::say(name);
-    samples::say(b"\n");
-    let file = os::open_read(name);
-    if file < 0 {
-        os::fail(name);
-        return;
+fn run<R: Files + Eprint>(rt: &R, out: Stdout, name: &str) {
+    let mut to = out;
+    samples::say(&mut to, name.as_bytes());
+    samples::say(&mut to, b"\n");
+    if let Some(mut file) = samples::opened(rt, name) {
+        let mut reasons = out;
+        let ending = replies::reply(&mut file, &mut to, &mut reasons);
+        samples::say(&mut to, b"\n");
+        samples::end(&mut to, ending);
     }
-    let ending = replies::reply(file, STDOUT_FILENO, STDOUT_FILENO);
-    samples::say(b"\n");
-    samples::end(ending);
-    libc::close(file);
 }
 
-// The text that one argument names; false where there is none.
-fn run_named(index: usize) -> bool {
-    let mut name = io::buffer();
-    let length = os::arg(index, &mut name);
-    if os::errno() != 0 {
-        return false;
-    }
-    run(&name[..length]);
-    true
+// The text that one argument names.
+fn run_named<R: Files + Eprint>(rt: &R, out: Stdout, name: &str) {
+    run(rt, out, name);
 }
 
-fn main() {
-    let mut index = 1;
-    while index < 64 && run_named(index) {
-        index += 1;
+fn main(rt: HostRuntime) -> io::Result<()> {
+    for name in env::args(&rt)?.skip(1) {
+        run_named(&rt, rt.stdout(), name.as_str());
     }
+    Ok(())
 }

@@ -2,48 +2,46 @@
 // report and the status.
 #![tactic(auto)]
 
-use libc::STDOUT_FILENO;
+use std::io::Write;
+use std::rt::Files;
+use std::{env, io};
 
 // Through a block of one of the longest records; what is not printed goes nowhere.
-fn run_slowly(name: &[u8], nowhere: i32) {
+fn run_slowly<R: Files + Eprint, W: Write>(rt: &R, to: &mut W, name: &str) {
     let mut block = [0u8; 65539];
-    let packets = samples::open(name, 65539, b": packets\n");
-    unwrap_stream::copy_slowly(packets, STDOUT_FILENO, nowhere, &mut block);
-    libc::close(packets);
-    samples::say(b"\n");
-    let report = samples::open(name, 65539, b": report\n");
-    samples::end(unwrap_stream::copy_slowly(report, nowhere, STDOUT_FILENO, &mut block));
-    libc::close(report);
+    if let Some(mut packets) = samples::open(rt, to, name, 65539, b": packets\n") {
+        unwrap_stream::copy_slowly(&mut packets, to, &mut io::sink(), &mut block);
+    }
+    samples::say(to, b"\n");
+    if let Some(mut report) = samples::open(rt, to, name, 65539, b": report\n") {
+        let ending = unwrap_stream::copy_slowly(&mut report, &mut io::sink(), to, &mut block);
+        samples::end(to, ending);
+    }
 }
 
 // Through a large one.
-fn run(name: &[u8], nowhere: i32) {
+fn run<R: Files + Eprint, W: Write>(rt: &R, to: &mut W, name: &str) {
     let mut block = [0u8; 131072];
-    let packets = samples::open(name, 131072, b": packets\n");
-    unwrap_stream::copy(packets, STDOUT_FILENO, nowhere, &mut block);
-    libc::close(packets);
-    samples::say(b"\n");
-    let report = samples::open(name, 131072, b": report\n");
-    samples::end(unwrap_stream::copy(report, nowhere, STDOUT_FILENO, &mut block));
-    libc::close(report);
+    if let Some(mut packets) = samples::open(rt, to, name, 131072, b": packets\n") {
+        unwrap_stream::copy(&mut packets, to, &mut io::sink(), &mut block);
+    }
+    samples::say(to, b"\n");
+    if let Some(mut report) = samples::open(rt, to, name, 131072, b": report\n") {
+        let ending = unwrap_stream::copy(&mut report, &mut io::sink(), to, &mut block);
+        samples::end(to, ending);
+    }
 }
 
-// The file that one argument names; false where there is none.
-fn run_named(index: usize, nowhere: i32) -> bool {
-    let mut name = io::buffer();
-    let length = os::arg(index, &mut name);
-    if os::errno() != 0 {
-        return false;
-    }
-    run_slowly(&name[..length], nowhere);
-    run(&name[..length], nowhere);
-    true
+// The file that one argument names.
+fn run_named<R: Files + Eprint, W: Write>(rt: &R, to: &mut W, name: &str) {
+    run_slowly(rt, to, name);
+    run(rt, to, name);
 }
 
-fn main() {
-    let nowhere = os::open_append(b"/dev/null");
-    let mut index = 1;
-    while index < 64 && run_named(index, nowhere) {
-        index += 1;
+fn main(rt: HostRuntime) -> io::Result<()> {
+    let mut to = rt.stdout();
+    for name in env::args(&rt)?.skip(1) {
+        run_named(&rt, &mut to, name.as_str());
     }
+    Ok(())
 }

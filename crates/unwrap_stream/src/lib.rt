@@ -1,4 +1,4 @@
-// A file of outer packets from one descriptor, the packets to another and the report to a third, in blocks. What is written is decided by `unwrapping`; here bytes are
+// A file of outer packets from a reader, the packets to a writer and the report to another, in blocks. What is written is decided by `unwrapping`; here bytes are
 // moved.
 #![tactic(auto)]
 
@@ -13,6 +13,8 @@ ghost use Rattle.unwrapping.specs.Unwrapping.{outer_form, longest_record, state,
 
 use blocks::{Ended, Step, Unread};
 use manners::Ending;
+use std::io;
+use std::io::{Read, Write};
 use tunnel::Numbers;
 
 // After a turn: the reader's numbers, how many records were read, how much was put to the output and to the report, and what is unread.
@@ -26,7 +28,7 @@ struct Turned {
 }
 
 // One turn: the records at the start of what is unread, as many as the output has room for; and it goes on behind them.
-fn turn(
+fn turn<R: Read, W: Write, V: Write>(
     numbers: Numbers,
     part: &mut [u8; 1500],
     count: u64,
@@ -35,9 +37,9 @@ fn turn(
     have: usize,
     out: &mut [u8],
     report: &mut [u8],
-    from: i32,
-    to: i32,
-    aside: i32,
+    from: &mut R,
+    to: &mut W,
+    aside: &mut V,
 ) -> Turned
     requires { (at ≤ have) × (have ≤ length block.old) × (longest_record ≤ length block.old) × (length report.old ≡ length out.old) }
     ensures { BothSay unwrap_channels (state numbers part.old count) block.old at have out.old report.old (state result.numbers part.new result.count) block.new out.new result.wrote report.new result.told result.unread }
@@ -60,7 +62,7 @@ fn turn(
 }
 
 // Ends a run at a step: the part that is held and the last line are told, and nothing comes last in the output.
-fn finish(
+fn finish<V: Write>(
     numbers: Numbers,
     part: &[u8; 1500],
     step: Step,
@@ -69,7 +71,7 @@ fn finish(
     at: usize,
     have: usize,
     report: &mut [u8],
-    aside: i32,
+    aside: &mut V,
 ) -> Ended
     requires { (at ≤ have) × (have ≤ length block.now) × (shortest_output ≤ length report.old) }
     ensures { (out : List ℕ) → Concludes step (entry_in outer_form (Blocks·unread block.now at have)) result.ending × LastSaid unwrap_channels (state numbers part.now 0) (entry_in outer_form (Blocks·unread block.now at have)) out report.new × (result.turns ≡ turns) × (result.at ≡ at) × (result.have ≡ have) }
@@ -78,7 +80,7 @@ fn finish(
     let held = tunnel::held(numbers, part);
     let line = reports::put_held(held, report, 0);
     let end = line + records::put_last(entry, &mut report[line..]);
-    let ending = blocks::conclude(step, entry, &report[..end], aside, b"", aside);
+    let ending = blocks::conclude(step, entry, &report[..end], aside, b"", &mut io::sink());
     Ended {
         ending: ending,
         turns: turns,
@@ -88,14 +90,14 @@ fn finish(
 }
 
 // Unwraps a file, from a fresh reader whose part's memory is lent in place.
-fn run(
+fn run<R: Read, W: Write, V: Write>(
     part: &mut [u8; 1500],
     block: &mut [u8],
     out: &mut [u8],
     report: &mut [u8],
-    from: i32,
-    to: i32,
-    aside: i32,
+    from: &mut R,
+    to: &mut W,
+    aside: &mut V,
 ) -> Ended
     requires { (shortest_output ≤ length out.old) × (longest_record ≤ length block.old) × (length report.old ≡ length out.old) }
     ensures { RunSays unwrap_channels result.ending result.turns (entry_in outer_form (Blocks·unread block.new result.at result.have)) out.new report.new }
@@ -124,19 +126,29 @@ fn run(
 }
 
 // Unwraps a file, reading it through the lent block.
-fn unwrap(from: i32, to: i32, aside: i32, block: &mut [u8]) -> Ending
+fn unwrap<R: Read, W: Write, V: Write>(
+    from: &mut R,
+    to: &mut W,
+    aside: &mut V,
+    block: &mut [u8],
+) -> Ending
     requires { longest_record ≤ length block.old }
     ensures { T (among run_statuses (status_of result)) }
 {
     let mut part = [0u8; 1500];
-    let mut out = io::large_buffer();
-    let mut report = io::large_buffer();
+    let mut out = [0u8; 65536];
+    let mut report = [0u8; 65536];
     let e = run(&mut part, block, &mut out, &mut report, from, to, aside);
     e.ending
 }
 
 // Unwraps a file, reading it through a block that holds two of the longest records.
-pub fn copy(from: i32, to: i32, aside: i32, block: &mut [u8; 131072]) -> Ending
+pub fn copy<R: Read, W: Write, V: Write>(
+    from: &mut R,
+    to: &mut W,
+    aside: &mut V,
+    block: &mut [u8; 131072],
+) -> Ending
     ensures { T (among run_statuses (status_of result)) }
 {
     let all: &mut [u8] = block;
@@ -144,7 +156,12 @@ pub fn copy(from: i32, to: i32, aside: i32, block: &mut [u8; 131072]) -> Ending
 }
 
 // The same through a block that holds one of the longest records and no more.
-pub fn copy_slowly(from: i32, to: i32, aside: i32, block: &mut [u8; 65539]) -> Ending
+pub fn copy_slowly<R: Read, W: Write, V: Write>(
+    from: &mut R,
+    to: &mut W,
+    aside: &mut V,
+    block: &mut [u8; 65539],
+) -> Ending
     ensures { T (among run_statuses (status_of result)) }
 {
     let all: &mut [u8] = block;

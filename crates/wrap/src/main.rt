@@ -1,7 +1,9 @@
 // Wraps a file of packets for the tunnel: wrap [PAYLOAD SIZE] < FILE > OUTER PACKETS, the report on standard error.
 #![tactic(auto)]
 
-use libc::{STDERR_FILENO, STDIN_FILENO, STDOUT_FILENO};
+use manners::Watched;
+use std::process::ExitCode;
+use std::rt::Env;
 
 // The payload size without a word.
 const USUAL_SIZE: usize = 1400;
@@ -10,28 +12,33 @@ const USUAL_SIZE: usize = 1400;
 const BAD_SIZE: u8 = 18;
 
 // The payload size that the word says; 0 where it says none that payloads may have. No word is longer than the memory for it.
-fn size_given() -> usize {
-    if os::arg_count() < 2 {
+fn size_given<R: Env>(rt: &R) -> usize {
+    if !manners::has_word(rt, 1) {
         return USUAL_SIZE;
     }
     let mut word = [0u8; 131072];
-    let length = os::arg(1, &mut word);
-    wrapping::size_of(&word[..length])
+    match rt.arg(1, &mut word) {
+        Ok(length) => wrapping::size_of(&word[..length]),
+        Err(_) => 0,
+    }
 }
 
-fn main() {
-    if 2 < os::arg_count() {
-        manners::refuse_words(
+fn main(rt: HostRuntime) -> ExitCode {
+    let mut aside = Watched::new(rt.stderr());
+    if manners::has_word(&rt, 2) {
+        return ExitCode::from(manners::refuse_words(
+            &mut aside,
             b"wrap: takes one word, the payload size from 64 to 1400: wrap 1400 < packets.ip > outer.op\n",
-        );
-        return;
+        ));
     }
-    let size = size_given();
+    let size = size_given(&rt);
     if size == 0 {
-        manners::refuse(b"wrap", BAD_SIZE);
-        return;
+        return ExitCode::from(manners::refuse(&mut aside, b"wrap", BAD_SIZE));
     }
+    let mut from = Watched::new(rt.stdin());
+    let mut to = Watched::new(rt.stdout());
     let mut block = [0u8; 131072];
-    let ending = wrap_stream::copy(size, STDIN_FILENO, STDOUT_FILENO, STDERR_FILENO, &mut block);
-    manners::finish(b"wrap", ending);
+    let ending = wrap_stream::copy(size, &mut from, &mut to, &mut aside, &mut block);
+    let error = from.error.or(to.error).or(aside.error);
+    ExitCode::from(manners::finish(&mut aside, b"wrap", ending, error))
 }

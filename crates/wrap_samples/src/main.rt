@@ -2,60 +2,67 @@
 // large one. Prints the outer packets, then the report and the status.
 #![tactic(auto)]
 
-use libc::STDOUT_FILENO;
+use std::io::Write;
+use std::rt::Files;
+use std::{env, io};
 
-// Says what follows, and opens the file; below 0 where that fails.
-fn open(name: &[u8], word: &[u8], blocks: u64, what: &[u8]) -> i32 {
-    samples::say(b"size ");
-    samples::say(word);
-    samples::say(b", ");
-    samples::open(name, blocks, what)
+// Says what follows, and opens the file; where that fails, it says so on standard error.
+fn open<R: Files + Eprint, W: Write>(
+    rt: &R,
+    to: &mut W,
+    name: &str,
+    word: &[u8],
+    blocks: u64,
+    what: &[u8],
+) -> Option<R::File> {
+    samples::say(to, b"size ");
+    samples::say(to, word);
+    samples::say(to, b", ");
+    samples::open(rt, to, name, blocks, what)
 }
 
 // Through a block of one of the longest records; what is not printed goes nowhere.
-fn run_slowly(name: &[u8], word: &[u8], nowhere: i32) {
+fn run_slowly<R: Files + Eprint, W: Write>(rt: &R, to: &mut W, name: &str, word: &[u8]) {
     let mut block = [0u8; 1504];
     let size = wrapping::size_of(word);
-    let packets = open(name, word, 1504, b": packets\n");
-    wrap_stream::copy_slowly(size, packets, STDOUT_FILENO, nowhere, &mut block);
-    libc::close(packets);
-    samples::say(b"\n");
-    let report = open(name, word, 1504, b": report\n");
-    samples::end(wrap_stream::copy_slowly(size, report, nowhere, STDOUT_FILENO, &mut block));
-    libc::close(report);
+    if let Some(mut packets) = open(rt, to, name, word, 1504, b": packets\n") {
+        wrap_stream::copy_slowly(size, &mut packets, to, &mut io::sink(), &mut block);
+    }
+    samples::say(to, b"\n");
+    if let Some(mut report) = open(rt, to, name, word, 1504, b": report\n") {
+        let ending = wrap_stream::copy_slowly(size, &mut report, &mut io::sink(), to, &mut block);
+        samples::end(to, ending);
+    }
 }
 
 // Through a large one.
-fn run(name: &[u8], word: &[u8], nowhere: i32) {
+fn run<R: Files + Eprint, W: Write>(rt: &R, to: &mut W, name: &str, word: &[u8]) {
     let mut block = [0u8; 131072];
     let size = wrapping::size_of(word);
-    let packets = open(name, word, 131072, b": packets\n");
-    wrap_stream::copy(size, packets, STDOUT_FILENO, nowhere, &mut block);
-    libc::close(packets);
-    samples::say(b"\n");
-    let report = open(name, word, 131072, b": report\n");
-    samples::end(wrap_stream::copy(size, report, nowhere, STDOUT_FILENO, &mut block));
-    libc::close(report);
+    if let Some(mut packets) = open(rt, to, name, word, 131072, b": packets\n") {
+        wrap_stream::copy(size, &mut packets, to, &mut io::sink(), &mut block);
+    }
+    samples::say(to, b"\n");
+    if let Some(mut report) = open(rt, to, name, word, 131072, b": report\n") {
+        let ending = wrap_stream::copy(size, &mut report, &mut io::sink(), to, &mut block);
+        samples::end(to, ending);
+    }
 }
 
-// The file that one argument names, with the size that another says; false where there is none.
-fn run_named(size: usize, file: usize, nowhere: i32) -> bool {
-    let mut word = io::buffer();
-    let mut name = io::buffer();
-    let digits = os::arg(size, &mut word);
-    let length = os::arg(file, &mut name);
-    if os::errno() != 0 {
-        return false;
-    }
-    run_slowly(&name[..length], &word[..digits], nowhere);
-    run(&name[..length], &word[..digits], nowhere);
-    true
+// The file that one argument names, with the size that another says.
+fn run_named<R: Files + Eprint, W: Write>(rt: &R, to: &mut W, name: &str, word: &[u8]) {
+    run_slowly(rt, to, name, word);
+    run(rt, to, name, word);
 }
 
-fn main() {
-    let nowhere = os::open_append(b"/dev/null");
-    let mut index = 1;
-    while index < 256 && run_named(index, index + 1, nowhere) {
-        index += 2;
+fn main(rt: HostRuntime) -> io::Result<()> {
+    let mut to = rt.stdout();
+    let mut given = env::args(&rt)?.skip(1);
+    for _ in 0..128 {
+        let (Some(word), Some(name)) = (given.next(), given.next()) else {
+            break;
+        };
+        run_named(&rt, &mut to, name.as_str(), word.as_bytes());
     }
+    Ok(())
 }

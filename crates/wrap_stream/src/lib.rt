@@ -1,4 +1,4 @@
-// A file of timestamps and stored packets from one descriptor, the outer packets to another and the report to a third, in blocks. What is written is decided by
+// A file of timestamps and stored packets from a reader, the outer packets to a writer and the report to another, in blocks. What is written is decided by
 // `wrapping`; here bytes are moved.
 #![tactic(auto)]
 
@@ -14,6 +14,7 @@ ghost use Rattle.wrap_stream.specs.Streams.{wrap_statuses};
 
 use blocks::{Ended, Step, Unread};
 use manners::Ending;
+use std::io::{Read, Write};
 use wrapper::Numbers;
 
 // After a turn: the writer's numbers, the timestamp, how many records were read, how much was put to the output and to the report, and what is unread.
@@ -31,7 +32,7 @@ struct Turned {
 const BAD_SIZE: u8 = 18;
 
 // One turn: the records at the start of what is unread, as many as the output has room for; and it goes on behind them.
-fn turn(
+fn turn<R: Read, W: Write, V: Write>(
     numbers: Numbers,
     bytes: &mut [u8; 1400],
     stamp: u32,
@@ -42,9 +43,9 @@ fn turn(
     outers: &mut [u8],
     out: &mut [u8],
     report: &mut [u8],
-    from: i32,
-    to: i32,
-    aside: i32,
+    from: &mut R,
+    to: &mut W,
+    aside: &mut V,
 ) -> Turned
     requires at_le_have { (at ≤ have) × (have ≤ length block.old) × (longest_record ≤ length block.old) × (length report.old ≡ length out.old) }
     requires size_le_most_size { (numbers.size ≤ most_size) × (longest_output ≤ length outers.old) }
@@ -79,7 +80,7 @@ fn turn(
 }
 
 // Ends a run at a step: the writer is closed, and the last line is told.
-fn finish(
+fn finish<W: Write, V: Write>(
     numbers: Numbers,
     bytes: &[u8; 1400],
     outers: &mut [u8],
@@ -90,8 +91,8 @@ fn finish(
     have: usize,
     out: &mut [u8],
     report: &mut [u8],
-    to: i32,
-    aside: i32,
+    to: &mut W,
+    aside: &mut V,
 ) -> Ended
     requires { (at ≤ have) × (have ≤ length block.now) × (numbers.size ≤ most_size) × (longest_output ≤ length outers.old) × (longest_output ≤ length out.old) × (length report.old ≡ length out.old) }
     ensures { Concludes step (entry_in wrap_form (Blocks·unread block.now at have)) result.ending × LastSaid wrap_channels (state numbers bytes.now 0 0) (entry_in wrap_form (Blocks·unread block.now at have)) out.new report.new × (result.turns ≡ turns) × (result.at ≡ at) × (result.have ≡ have) }
@@ -109,16 +110,16 @@ fn finish(
 }
 
 // Wraps a file, from a fresh writer of a size that payloads may have.
-fn run(
+fn run<R: Read, W: Write, V: Write>(
     size: usize,
     bytes: &mut [u8; 1400],
     block: &mut [u8],
     outers: &mut [u8],
     out: &mut [u8],
     report: &mut [u8],
-    from: i32,
-    to: i32,
-    aside: i32,
+    from: &mut R,
+    to: &mut W,
+    aside: &mut V,
 ) -> Ended
     requires { (size ≤ most_size) × (longest_output ≤ length outers.old) × (longest_output ≤ length out.old) × (longest_record ≤ length block.old) × (length report.old ≡ length out.old) }
     ensures { RunSays wrap_channels result.ending result.turns (entry_in wrap_form (Blocks·unread block.new result.at result.have)) out.new report.new }
@@ -164,7 +165,13 @@ fn run(
 }
 
 // Wraps a file, reading it through the lent block. Where payloads may not have this size, nothing is read, and 18 is the number.
-fn wrap(size: usize, from: i32, to: i32, aside: i32, block: &mut [u8]) -> Ending
+fn wrap<R: Read, W: Write, V: Write>(
+    size: usize,
+    from: &mut R,
+    to: &mut W,
+    aside: &mut V,
+    block: &mut [u8],
+) -> Ending
     requires { longest_record ≤ length block.old }
     ensures { T (among (wrap_statuses size) (status_of result)) }
 {
@@ -172,9 +179,9 @@ fn wrap(size: usize, from: i32, to: i32, aside: i32, block: &mut [u8]) -> Ending
         return Ending::Over(BAD_SIZE);
     }
     let mut bytes = [0u8; 1400];
-    let mut outers = io::buffer();
-    let mut out = io::large_buffer();
-    let mut report = io::large_buffer();
+    let mut outers = [0u8; 4096];
+    let mut out = [0u8; 65536];
+    let mut report = [0u8; 65536];
     let e = run(
         size,
         &mut bytes,
@@ -190,7 +197,13 @@ fn wrap(size: usize, from: i32, to: i32, aside: i32, block: &mut [u8]) -> Ending
 }
 
 // Wraps a file, reading it through a large block.
-pub fn copy(size: usize, from: i32, to: i32, aside: i32, block: &mut [u8; 131072]) -> Ending
+pub fn copy<R: Read, W: Write, V: Write>(
+    size: usize,
+    from: &mut R,
+    to: &mut W,
+    aside: &mut V,
+    block: &mut [u8; 131072],
+) -> Ending
     ensures { T (among (wrap_statuses size) (status_of result)) }
 {
     let all: &mut [u8] = block;
@@ -198,7 +211,13 @@ pub fn copy(size: usize, from: i32, to: i32, aside: i32, block: &mut [u8; 131072
 }
 
 // The same through a block that holds one of the longest records and no more.
-pub fn copy_slowly(size: usize, from: i32, to: i32, aside: i32, block: &mut [u8; 1504]) -> Ending
+pub fn copy_slowly<R: Read, W: Write, V: Write>(
+    size: usize,
+    from: &mut R,
+    to: &mut W,
+    aside: &mut V,
+    block: &mut [u8; 1504],
+) -> Ending
     ensures { T (among (wrap_statuses size) (status_of result)) }
 {
     let all: &mut [u8] = block;

@@ -1,14 +1,21 @@
 // Writes the segments of a list as a log, from a line on standard input: echo "this LISTING IN HEX" | write
 #![tactic(auto)]
 
-use libc::{STDERR_FILENO, STDIN_FILENO, STDOUT_FILENO};
+use manners::Watched;
+use std::process::ExitCode;
 
-fn main() {
-    if manners::has_words(
+fn main(rt: HostRuntime) -> ExitCode {
+    let mut aside = rt.stderr();
+    if let Some(status) = manners::has_words(
+        &rt,
+        &mut aside,
         b"write: takes no words; the line comes on standard input: echo \"this LISTING IN HEX\" | write\n",
     ) {
-        return;
+        return ExitCode::from(status);
     }
-    let ending = replies::reply(STDIN_FILENO, STDOUT_FILENO, STDERR_FILENO);
-    manners::finish(b"write", ending);
+    let mut from = Watched::new(rt.stdin());
+    let mut to = Watched::new(rt.stdout());
+    let ending = replies::reply(&mut from, &mut to, &mut aside);
+    let error = from.error.or(to.error);
+    ExitCode::from(manners::finish(&mut aside, b"write", ending, error))
 }
