@@ -7,7 +7,6 @@ use lib.Seq.{take_all}
 use Rattle.text.proofs.Laws.{put_same}
 use Rattle.records.specs.Records.{length_bytes}
 use Rattle.explain_lines.specs.Lines.{chunk_lines}
-use borrow.Author.Rules.{rules}
 use Rattle.explaining.proofs.chunk.Goals as goal
 
 pub returns : goal.returns

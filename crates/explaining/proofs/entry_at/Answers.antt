@@ -2,7 +2,6 @@
 use lib.ListN.{drop}
 use Rattle.records.proofs.Entries.{entry_by}
 use Rattle.explaining.specs.Explained.{explain_form}
-use borrow.Author.Rules.{rules}
 use Rattle.explaining.proofs.entry_at.Goals as goal
 
 pub returns : goal.returns

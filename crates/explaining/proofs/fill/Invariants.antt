@@ -1,11 +1,8 @@
-use mathlib.Core.Path.{◌∙◌}
 use Prim.Native.Nat.{◌-◌}
-use native.Mathlib.Omega.{arith}
 use lib.ListN.{length}
 use Rattle.desk.specs.Desks.{desk}
 use Rattle.desk.specs.Calls.{state}
-use Rattle.explaining.proofs.Laws.{Doing, doing_start, doing_full, doing_stops, doing_less, doing_more}
-use borrow.Author.Rules.{rules}
+use Rattle.explaining.proofs.Laws.{Doing}
 use Rattle.explaining.proofs.fill.Given as goal
 
 abbrev pub invariant-loop-out : goal.invariant-loop-out

@@ -4,7 +4,6 @@ use native.Mathlib.Omega.{arith}
 use Prim.Native.Nat.{ℕ, ◌/◌, ◌%◌}
 use lib.ListN.{get_or-eq_default}
 use Rattle.meaning.specs.Lists.{kind_of}
-use borrow.Author.Rules.{rules}
 use Rattle.explaining.proofs.kind_in.Goals as goal
 
 pub returns-then-seg-eq0 : goal.returns-then-seg-eq0

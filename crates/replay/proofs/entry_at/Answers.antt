@@ -1,7 +1,6 @@
 -- `replay::entry_at` meets its contract. Assumes nothing.
 use lib.ListN.{drop}
 use Rattle.replay.proofs.Laws.{entry_by}
-use borrow.Author.Rules.{rules}
 use Rattle.replay.proofs.entry_at.Goals as goal
 
 pub returns : goal.returns

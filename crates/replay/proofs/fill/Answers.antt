@@ -3,17 +3,16 @@ use native.Mathlib.Nat.{sub-zero}
 use native.Mathlib.Omega.{arith}
 use Prim.Native.Nat.{ℕ, ◌-◌, ◌≤◌}
 use mathlib.Core.List.{List}
-use mathlib.Core.Path.{◌≡◌, refl, ◌∙◌}
+use mathlib.Core.Path.{refl, ◌∙◌}
 use lib.ListN.{length, drop}
 use Rattle.desk.specs.Desks.{desk}
 use Rattle.desk.specs.Calls.{State, state, Ready}
 use Rattle.lines.specs.Lines.{longest_lines}
 use Rattle.records.specs.Transcripts.{Filled, filled}
-use Rattle.records.proofs.Filling.{Goes, goes_start, full_stops, turned_keeps, turned-inside, turned_less, turned-length, turned_room, turned_left, turned_goes, turned_stops}
+use Rattle.records.proofs.Filling.{goes_start, full_stops, turned_keeps, turned-inside, turned_less, turned-length, turned_room, turned_left, turned_goes, turned_stops}
 use Rattle.replay.specs.Log.{log_program}
 use Rattle.replay.proofs.Log.{next_ready, lines_fit}
 use Rattle.replay.proofs.Laws.{turned_anew, filled_is}
-use borrow.Author.Rules.{rules}
 use Rattle.replay.proofs.fill.Goals as goal
 
 pub loop-out-init : goal.loop-out-init
