@@ -18,7 +18,7 @@ use Rattle.blocks.specs.declared.Step.TheVariants.{Next}
 use Rattle.blocks.specs.declared.Unread.{Unread}
 use Rattle.blocks.specs.Blocks.{most_turns, unread, Proceeds, Concludes}
 use Rattle.blocks.specs.Channels.{BothSay, LastSaid, RunSays}
-use Rattle.blocks.proofs.Laws.{unread-length, no_more, Fills, filled_before, filled-inside, turn_says, concluded}
+use Rattle.blocks.proofs.Laws.{unread-length, no_more, Fills, filled_before, filled-inside, turn_says, Keeps, turn_keeps, concluded}
 
 module _ {S : Type 0} (c : Channels S) where
   -- ---- a turn: the unread part of a block was filled
@@ -52,6 +52,11 @@ module _ {S : Type 0} (c : Channels S) where
           output = turn_says (output_of c) (length out) s t xs out out' read wrote output old at have new u e stands sent g;
           lines = turn_says (report_of c) (length out) s t xs report report' read told lines old at have new u e stands sent g;
         }
+
+  -- a turn leaves the unread part inside the block, and where no more comes no whole record stands
+  pub both_keep : {s : S} {old : List ℕ} {at have : ℕ} {out report : List ℕ} {t : S} {new out' : List ℕ} {wrote : ℕ} {report' : List ℕ} {told : ℕ} {u : Unread} → BothSay c s old at have out report t new out' wrote report' told u → at ≤ have → have ≤ length old → Keeps (λ (t : S). Unit {0}) c.forms t new u
+  both_keep {s = s} {old = old} {at = at} {have = have} {out = out} {t = t} {new = new} {out' = out'} {wrote = wrote} {u = u} says ahead inside =
+      turn_keeps (output_of c) (λ t. Unit {0}) (λ t r y. tt) (length out) s old at have out t new out' wrote u says.output tt ahead inside
 
   -- ---- a run, ended at a step
 

@@ -162,7 +162,7 @@ module _ (s : State) (log : List ℕ) (at to : ℕ) (out left : List ℕ) (wrote
 
 -- the desk's numbers copied
 pub turned_anew : (s : State) (xs : List ℕ) (at to : ℕ) (out : List ℕ) (m n : Notes) (bytes first second : List ℕ) (read : ℕ) (left : List ℕ) (wrote : ℕ) → n ≡ m → Turned log_program s xs at to out (state (desk m bytes) first second) read left wrote → Turned log_program s xs at to out (state (desk n bytes) first second) read left wrote
-turned_anew s xs at to out m n bytes first second read left wrote is t = (ap (λ (o : Notes). state (desk o bytes) first second) is ∙ t.0, t.1, t.2)
+turned_anew s _ at to out m n bytes first second read left wrote is t = (ap (λ (o : Notes). state (desk o bytes) first second) is ∙ t.0, t.1, t.2)
 
 -- the numbers that the code hands out are those of the last turn
 pub filled_is : (out₀ : List ℕ) (f₀ : Filled State) (out : List ℕ) (at to : ℕ) (m n : Notes) (read wrote : ℕ) (bytes first second : List ℕ) → Goes out₀ f₀ out at to (still (state (desk m bytes) first second)) → (n ≡ m) × (read ≡ at) × (wrote ≡ to) → (state (desk n bytes) first second ≡ f₀.state) × (read ≡ f₀.read) × Put f₀.text out₀ 0 out wrote
