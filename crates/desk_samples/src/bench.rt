@@ -3,12 +3,13 @@
 use desk::Desk;
 use meaning::Kind;
 use slots::Answer;
+use std::io::Write;
 
 const ROOM: usize = 1500;
 
 const BEFORE: u8 = 0xA5;
 
-#[derive(Drop)]
+#[derive(Clone, Copy)]
 pub struct Bench {
     pub desk: Desk,
     pub first: [u8; 1500],
@@ -16,11 +17,11 @@ pub struct Bench {
 }
 
 // A listing in hex, or a dash for none.
-fn say_listing(listing: &[u8]) {
+fn say_listing<W: Write>(to: &mut W, listing: &[u8]) {
     if listing.len() == 0 {
-        tell::say(b"-");
+        tell::say(to, b"-");
     }
-    tell::say_hex(listing, listing.len());
+    tell::say_hex(to, listing, listing.len());
 }
 
 // How many bytes there are up to the last that is not as it was at first.
@@ -37,45 +38,46 @@ fn changed(bytes: &[u8]) -> usize {
     end
 }
 
-fn say_answer(answer: Answer) {
-    tell::say(b":");
+fn say_answer<W: Write>(to: &mut W, answer: Answer) {
+    tell::say(to, b":");
     match answer {
         Answer::Missing(left) => {
-            tell::say(b" missing");
-            tell::say_number(left as u64);
+            tell::say(to, b" missing");
+            tell::say_number(to, left as u64);
         }
         Answer::NewList { kind, length } => {
-            tell::say(b" list");
-            tell::say_kind(kind);
-            tell::say_number(length as u64);
+            tell::say(to, b" list");
+            tell::say_kind(to, kind);
+            tell::say_number(to, length as u64);
         }
-        Answer::Refused(refusal) => tell::say_refusal(refusal),
+        Answer::Refused(refusal) => tell::say_refusal(to, refusal),
     }
 }
 
-fn say_shown<'a>(desk: Desk, first: &'a [u8], second: &'a [u8]) {
-    tell::say(b"; this ");
-    say_listing(desk.show(Kind::This, first, second));
-    tell::say(b"; next ");
-    say_listing(desk.show(Kind::Next, first, second));
-    tell::say(b"; changed");
-    tell::say_number(changed(first) as u64);
-    tell::say_number(changed(second) as u64);
-    tell::say(b"\n");
+fn say_shown<'a, W: Write>(to: &mut W, desk: Desk, first: &'a [u8], second: &'a [u8]) {
+    tell::say(to, b"; this ");
+    say_listing(to, desk.show(Kind::This, first, second));
+    tell::say(to, b"; next ");
+    say_listing(to, desk.show(Kind::Next, first, second));
+    tell::say(to, b"; changed");
+    tell::say_number(to, changed(first) as u64);
+    tell::say_number(to, changed(second) as u64);
+    tell::say(to, b"\n");
 }
 
 // A segment, with these buffers.
-fn take(desk: Desk, seg: &[u8], first: &mut [u8], second: &mut [u8]) -> Desk {
+fn take<W: Write>(to: &mut W, desk: Desk, seg: &[u8], first: &mut [u8], second: &mut [u8]) -> Desk {
     let taken = desk.segment(seg, first, second);
     let answer = taken.answer;
     let after = taken.desk;
-    say_answer(answer);
-    say_shown(after, first, second);
+    say_answer(to, answer);
+    say_shown(to, after, first, second);
     after
 }
 
 // A segment, with the first bytes of these buffers.
-fn take_in(
+fn take_in<W: Write>(
+    to: &mut W,
     desk: Desk,
     seg: &[u8],
     first: &mut [u8],
@@ -89,7 +91,7 @@ fn take_in(
     if second.len() < n {
         return desk;
     }
-    take(desk, seg, &mut first[..m], &mut second[..n])
+    take(to, desk, seg, &mut first[..m], &mut second[..n])
 }
 
 impl Bench {
@@ -106,12 +108,19 @@ impl Bench {
     }
 
     // Any bytes as a segment, with buffers of these lengths.
-    pub fn bytes_in(self, name: &[u8], seg: &[u8], m: usize, n: usize) -> Bench {
+    pub fn bytes_in<W: Write>(
+        self,
+        to: &mut W,
+        name: &[u8],
+        seg: &[u8],
+        m: usize,
+        n: usize,
+    ) -> Bench {
         let mut first = self.first;
         let mut second = self.second;
-        tell::say(name);
+        tell::say(to, name);
         let desk = self.desk;
-        let after = take_in(desk, seg, &mut first, m, &mut second, n);
+        let after = take_in(to, desk, seg, &mut first, m, &mut second, n);
         Bench {
             desk: after,
             first: first,
@@ -120,28 +129,35 @@ impl Bench {
     }
 
     // The first of some bytes.
-    pub fn part(self, name: &[u8], bytes: &[u8], len: usize) -> Bench {
+    pub fn part<W: Write>(self, to: &mut W, name: &[u8], bytes: &[u8], len: usize) -> Bench {
         if bytes.len() < len {
             return self;
         }
-        self.bytes_in(name, &bytes[..len], ROOM, ROOM)
+        self.bytes_in(to, name, &bytes[..len], ROOM, ROOM)
     }
 
-    pub fn segment_in(self, name: &[u8], seg: [u8; 37], m: usize, n: usize) -> Bench {
-        self.bytes_in(name, &seg, m, n)
+    pub fn segment_in<W: Write>(
+        self,
+        to: &mut W,
+        name: &[u8],
+        seg: [u8; 37],
+        m: usize,
+        n: usize,
+    ) -> Bench {
+        self.bytes_in(to, name, &seg, m, n)
     }
 
-    pub fn segment(self, name: &[u8], seg: [u8; 37]) -> Bench {
-        self.segment_in(name, seg, ROOM, ROOM)
+    pub fn segment<W: Write>(self, to: &mut W, name: &[u8], seg: [u8; 37]) -> Bench {
+        self.segment_in(to, name, seg, ROOM, ROOM)
     }
 
     // Names the desk as it now stands, and shows it.
-    pub fn now(self, name: &[u8]) -> Bench {
+    pub fn now<W: Write>(self, to: &mut W, name: &[u8]) -> Bench {
         let first = self.first;
         let second = self.second;
-        tell::say(name);
+        tell::say(to, name);
         let desk = self.desk;
-        say_shown(desk, &first, &second);
+        say_shown(to, desk, &first, &second);
         self
     }
 
@@ -155,13 +171,13 @@ impl Bench {
         }
     }
 
-    pub fn gathering(self) -> Bench {
+    pub fn gathering<W: Write>(self, to: &mut W) -> Bench {
         let desk = self.desk;
-        self.with(desk.new_gathering()).now(b"new gathering")
+        self.with(desk.new_gathering()).now(to, b"new gathering")
     }
 
-    pub fn frame(self) -> Bench {
+    pub fn frame<W: Write>(self, to: &mut W) -> Bench {
         let desk = self.desk;
-        self.with(desk.new_frame()).now(b"new frame")
+        self.with(desk.new_frame()).now(to, b"new frame")
     }
 }

@@ -14,7 +14,7 @@ use segments::{PAYLOAD_BYTES, SEGMENT_HEADER_BYTES};
 use slots::Slot;
 
 // What is at fault: the length, a row of a table, or a byte of a segment's payload.
-#[derive(Drop)]
+#[derive(Clone, Copy)]
 pub enum Field {
     Length,
     Row { table: Table, row: u8 },
@@ -22,7 +22,7 @@ pub enum Field {
 }
 
 // What there is to explain.
-#[derive(Drop)]
+#[derive(Clone, Copy)]
 pub enum Explained {
     Nothing,
     // a refusal with this number

@@ -8,7 +8,7 @@ ghost use Rattle.octets.specs.Tables.{before, first_not_whole, number_at};
 ghost use Rattle.fields.specs.Fields.{widths_of, cut_in, found_in};
 
 // Table 6.5; of Table 6.6 an ensemble, up to its services, and a service; Table 6.9.
-#[derive(Drop)]
+#[derive(Clone, Copy)]
 pub enum Table {
     Chunk,
     Ensemble,
@@ -17,14 +17,14 @@ pub enum Table {
 }
 
 // A row, from 0, and the bits before it.
-#[derive(Drop)]
+#[derive(Clone, Copy)]
 pub struct Place {
     pub row: u8,
     pub at: u16,
 }
 
 // The bits before a row, and the number in its bits.
-#[derive(Drop)]
+#[derive(Clone, Copy)]
 pub struct Found {
     pub at: u16,
     pub value: usize,

@@ -83,7 +83,7 @@ pub fn lukasembo_write(listing: &[u8], current: u8, output: &mut [u8]) -> u64
 
 // After a call: the answer, and the numbers that the caller keeps.
 #[repr(C)]
-#[derive(Drop)]
+#[derive(Clone, Copy)]
 pub struct Step {
     pub answer: u64,
     pub numbers: u64,
@@ -348,7 +348,7 @@ pub fn lukasembo_name_place(section: &[u8], n: usize) -> u64
 
 // The number, the field and the offset as one number; the value.
 #[repr(C)]
-#[derive(Drop)]
+#[derive(Clone, Copy)]
 pub struct Explanation {
     pub answer: u64,
     pub value: u64,

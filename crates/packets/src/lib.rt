@@ -28,6 +28,7 @@ const IP_VERSION: u8 = 4;
 const TELLING_BYTES: usize = 4;
 
 // By how many they are, the first of them, and the total length; that is not looked at where they are too few to tell it.
+#[tactic(auto, unfolding(crate::specs::Packets::start_by))]
 pub fn start_by(n: usize, first: u8, total: usize) -> Start
     ensures { result ≡ start_by n first total }
 {

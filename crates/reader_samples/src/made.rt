@@ -1,5 +1,5 @@
 // A chunk that is put together byte by byte, by value. What comes after the 640th byte is lost.
-#[derive(Drop)]
+#[derive(Clone, Copy)]
 pub struct Made {
     pub bytes: [u8; 640],
     pub len: usize,

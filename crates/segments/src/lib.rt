@@ -17,6 +17,7 @@ pub const PAYLOAD_BYTES: usize = 35;
 pub const MOST_SEGMENTS: u8 = 16;
 
 // The checks on a segment's own length and header, in document 01's order.
+#[tactic(auto, unfolding(crate::specs::Segment::segment_checks))]
 pub fn check_segment(seg: &[u8]) -> Checked
     ensures { result ≡ segment_checks seg.now }
 {

@@ -1,7 +1,7 @@
 // A listing that is put together byte by byte, by value. What comes after the 2560th byte is lost.
 const MOST: usize = 2560;
 
-#[derive(Drop)]
+#[derive(Clone, Copy)]
 pub struct Made {
     pub bytes: [u8; 2560],
     pub len: usize,

@@ -1,7 +1,6 @@
 -- `packets::is_carried` meets its contract: by what stands there. Assumes nothing.
-use mathlib.Core.Path.{sym, ◌∙◌}
+use mathlib.Core.Path.{sym}
 use Rattle.packets.proofs.Laws.{whole_is}
-use borrow.Author.Rules.{rules}
 use Rattle.packets.proofs.is_carried.Goals as goal
 
 pub returns-in-Whole : goal.returns-in-Whole

@@ -1,6 +1,5 @@
 -- `packets::put_head` meets its contract: its mark and its length are the head. Assumes nothing.
 use Rattle.packets.proofs.Laws.{head-stored}
-use borrow.Author.Rules.{rules}
 use Rattle.packets.proofs.put_head.Goals as goal
 
 pub returns : goal.returns

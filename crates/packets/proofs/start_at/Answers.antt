@@ -1,7 +1,6 @@
 -- `packets::start_at` meets its contract. Assumes nothing.
 use mathlib.Core.Path.{refl, sym, ◌∙◌}
 use Rattle.packets.proofs.Laws.{start_end, start_early, start_there}
-use borrow.Author.Rules.{rules}
 use Rattle.packets.proofs.start_at.Goals as goal
 
 pub returns : goal.returns

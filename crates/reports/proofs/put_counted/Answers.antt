@@ -1,6 +1,5 @@
 -- `reports::put_counted` meets its contract: nothing, or the word and the number behind it. Assumes nothing.
 use native.Mathlib.Omega.{arith}
-use borrow.Author.Rules.{rules}
 use Rattle.text.specs.Text.{decimal}
 use Rattle.text.proofs.Laws.{put_same, put_both, length_wide}
 use Rattle.reports.proofs.Laws.{behind_none, behind_some, put_none}

@@ -1,6 +1,5 @@
 -- `reports::put_held` meets its contract: nothing, or the word and the number behind it. Assumes nothing.
 use native.Mathlib.Omega.{arith}
-use borrow.Author.Rules.{rules}
 use lib.ListN.{length-append}
 use Rattle.text.specs.Text.{text, newline, decimal, numbered}
 use Rattle.text.proofs.Laws.{put_same, put_both, length_wide}

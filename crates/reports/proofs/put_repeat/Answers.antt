@@ -1,6 +1,5 @@
 -- `reports::put_repeat` meets its contract: nothing, or the word. Assumes nothing.
 use mathlib.Core.Path.{sym, ap}
-use borrow.Author.Rules.{rules}
 use Rattle.text.proofs.Laws.{put_same}
 use Rattle.reports.proofs.Laws.{repeated, put_none}
 use Rattle.reports.proofs.put_repeat.Goals as goal

@@ -2,7 +2,6 @@
 use mathlib.Core.Path.{sym, ◌∙◌}
 use mathlib.Core.List.{◌++◌}
 use native.Mathlib.Omega.{arith}
-use borrow.Author.Rules.{rules}
 use Rattle.text.specs.Text.{text, newline, decimal}
 use Rattle.text.proofs.Laws.{put_same, put_both, length_wide}
 use Rattle.reports.specs.Reports.{said}

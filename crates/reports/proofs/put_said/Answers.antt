@@ -1,6 +1,5 @@
 -- `reports::put_said` meets its contract: the four pieces come one after the other. Assumes nothing.
 use native.Mathlib.Omega.{arith}
-use borrow.Author.Rules.{rules}
 use Rattle.text.specs.Text.{text}
 use Rattle.reports.proofs.Laws.{length-behind, length_repeated, put_words}
 use Rattle.reports.proofs.put_said.Goals as goal

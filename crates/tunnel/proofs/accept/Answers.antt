@@ -1,8 +1,7 @@
 -- `tunnel::accept` meets its contract: 17, or what the payload gives. Assumes nothing.
 use mathlib.Core.Path.{sym, ◌∙◌}
 use native.Mathlib.Omega.{arith}
-use Rattle.tunnel.proofs.Accepted.{numbered, held_inside, accept_drops, kept_most, start_here, lost_most, accept_reads}
-use borrow.Author.Rules.{rules}
+use Rattle.tunnel.proofs.Accepted.{numbered, held_inside, accept_drops, lost_most, accept_reads}
 use Rattle.tunnel.proofs.accept.Goals as goal
 
 pub returns-then-is_outside : goal.returns-then-is_outside

@@ -2,7 +2,6 @@
 use mathlib.Core.Path.{sym}
 use borrow.Author.Tests.{not-true, not-false}
 use Rattle.tunnel.proofs.Laws.{gap-fresh, gap_begun}
-use borrow.Author.Rules.{rules}
 use Rattle.tunnel.proofs.gap_before.Goals as goal
 
 pub returns-then-not-numbers : goal.returns-then-not-numbers

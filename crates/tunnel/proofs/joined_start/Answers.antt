@@ -1,7 +1,6 @@
 -- `tunnel::joined_start` meets its contract. Assumes nothing.
 use mathlib.Core.Path.{◌∙◌}
 use Rattle.tunnel.proofs.Laws.{joined_few, joined_told}
-use borrow.Author.Rules.{rules}
 use Rattle.tunnel.proofs.joined_start.Goals as goal
 
 pub returns-then-n-lt4 : goal.returns-then-n-lt4

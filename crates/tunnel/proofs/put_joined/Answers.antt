@@ -1,6 +1,5 @@
 -- `tunnel::put_joined` meets its contract: three runs of bytes. Assumes nothing.
 use Rattle.tunnel.proofs.Laws.{joined-stored}
-use borrow.Author.Rules.{rules}
 use Rattle.tunnel.proofs.put_joined.Goals as goal
 
 pub returns : goal.returns

@@ -3,7 +3,6 @@ use mathlib.Core.Path.{refl, sym, ◌∙◌}
 use native.Mathlib.Omega.{arith}
 use Rattle.packets.proofs.Laws.{means}
 use Rattle.tunnel.proofs.Laws.{one, up_to, behind, more_length, joined_length, part_behind, before_nothing, before_other, before_ends, before_cut, before_goes_on, before_fault, gains_thrown, gains_one, gains_part}
-use borrow.Author.Rules.{rules}
 use Rattle.tunnel.proofs.read_before.Goals as goal
 
 pub returns-then-held-eq0 : goal.returns-then-held-eq0

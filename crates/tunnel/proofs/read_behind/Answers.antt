@@ -3,7 +3,6 @@ use native.Mathlib.Omega.{arith}
 use lib.ListN.{take, drop, length-drop}
 use Rattle.tunnel.proofs.Laws.{up_to}
 use Rattle.tunnel.proofs.Behind.{before_stored, found_stored, before_held, before_lost, after_lost, behind_gains}
-use borrow.Author.Rules.{rules}
 use Rattle.tunnel.proofs.read_behind.Goals as goal
 
 pub returns : goal.returns

@@ -1,10 +1,7 @@
 -- `tunnel::read_from` meets its contract. The loop's invariant: what is left, put where it has come to, is the whole; the measure is what is left. Assumes nothing.
-use mathlib.Core.Path.{sym, ◌∙◌}
-use Prim.Native.Nat.{◌-◌}
+use mathlib.Core.Path.{sym}
 use native.Mathlib.Omega.{arith}
-use lib.ListN.{length}
-use Rattle.tunnel.proofs.From.{Reads, reads_start, packet_inside, next_length, reads_next, reached_running, reached_fault, reached_end}
-use borrow.Author.Rules.{rules}
+use Rattle.tunnel.proofs.From.{packet_inside, next_length, reads_next, reached_running, reached_fault, reached_end}
 use Rattle.tunnel.proofs.read_from.Goals as goal
 
 pub put_packet-requires : goal.put_packet-requires

@@ -1,9 +1,6 @@
-use mathlib.Core.Path.{sym, ◌∙◌}
 use Prim.Native.Nat.{◌-◌}
-use native.Mathlib.Omega.{arith}
 use lib.ListN.{length}
-use Rattle.tunnel.proofs.From.{Reads, reads_start, packet_inside, next_length, reads_next, reached_running, reached_fault, reached_end}
-use borrow.Author.Rules.{rules}
+use Rattle.tunnel.proofs.From.{Reads}
 use Rattle.tunnel.proofs.read_from.Given as goal
 
 abbrev pub invariant-loop-at : goal.invariant-loop-at

@@ -2,7 +2,6 @@
 use lib.ListN.{drop}
 use Rattle.records.proofs.Entries.{entry_by}
 use Rattle.unwrapping.specs.Unwrapping.{outer_form}
-use borrow.Author.Rules.{rules}
 use Rattle.unwrapping.proofs.entry_at.Goals as goal
 
 pub returns : goal.returns

@@ -1,7 +1,6 @@
 -- `unwrapping::feed` meets its contract: the tunnel's answer, stored and told. Assumes nothing.
 use native.Mathlib.Omega.{arith}
 use Rattle.unwrapping.proofs.Laws.{stored_room, feed_says}
-use borrow.Author.Rules.{rules}
 use Rattle.unwrapping.proofs.feed.Goals as goal
 
 pub returns : goal.returns

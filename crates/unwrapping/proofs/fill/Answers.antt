@@ -1,13 +1,9 @@
 -- `unwrapping::fill` meets its contract. The loop's invariant: what is left to fill, put here, makes the whole that was asked for, on both channels; the measure is
 -- what is left of the file. Assumes nothing.
-use mathlib.Core.Path.{◌∙◌}
-use Prim.Native.Nat.{◌-◌}
 use native.Mathlib.Omega.{arith}
-use lib.ListN.{length}
-use Rattle.records.proofs.Channels.{Doing, doing_start, doing_full, doing_stops, doing_less, doing_more}
-use Rattle.unwrapping.specs.Unwrapping.{state, unwrap_channels}
+use Rattle.records.proofs.Channels.{doing_full, doing_stops, doing_less, doing_more}
+use Rattle.unwrapping.specs.Unwrapping.{unwrap_channels}
 use Rattle.unwrapping.proofs.Laws.{same_state, unwrap_room}
-use borrow.Author.Rules.{rules}
 use Rattle.unwrapping.proofs.fill.Goals as goal
 
 pub returns-then-f-at : goal.returns-then-f-at

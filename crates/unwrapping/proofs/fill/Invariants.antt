@@ -1,11 +1,7 @@
-use mathlib.Core.Path.{◌∙◌}
 use Prim.Native.Nat.{◌-◌}
-use native.Mathlib.Omega.{arith}
 use lib.ListN.{length}
-use Rattle.records.proofs.Channels.{Doing, doing_start, doing_full, doing_stops, doing_less, doing_more}
+use Rattle.records.proofs.Channels.{Doing}
 use Rattle.unwrapping.specs.Unwrapping.{state, unwrap_channels}
-use Rattle.unwrapping.proofs.Laws.{same_state, unwrap_room}
-use borrow.Author.Rules.{rules}
 use Rattle.unwrapping.proofs.fill.Given as goal
 
 abbrev pub invariant-loop-out : goal.invariant-loop-out

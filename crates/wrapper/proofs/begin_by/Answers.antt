@@ -1,6 +1,5 @@
 -- `wrapper::begin_by` meets its contract. Assumes nothing.
 use Rattle.wrapper.proofs.Laws.{begin_there, begin_none}
-use borrow.Author.Rules.{rules}
 use Rattle.wrapper.proofs.begin_by.Goals as goal
 
 pub returns-then-numbers-left : goal.returns-then-numbers-left

@@ -2,7 +2,6 @@
 use mathlib.Core.Path.{refl}
 use native.Mathlib.Omega.{arith}
 use Rattle.wrapper.proofs.Fills.{keep_says}
-use borrow.Author.Rules.{rules}
 use Rattle.wrapper.proofs.keep.Goals as goal
 
 pub returns : goal.returns

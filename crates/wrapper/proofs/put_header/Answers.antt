@@ -1,7 +1,6 @@
 -- `wrapper::put_header` meets its contract: its six numbers are the header. Assumes nothing.
 use native.Mathlib.Omega.{arith}
 use Rattle.wrapper.proofs.Outers.{header-stored}
-use borrow.Author.Rules.{rules}
 use Rattle.wrapper.proofs.put_header.Goals as goal
 
 pub returns : goal.returns

@@ -2,7 +2,6 @@
 use native.Mathlib.Omega.{arith}
 use Rattle.octets.proofs.Laws.{bytes_all}
 use Rattle.wrapper.proofs.Fills.{joined-stored}
-use borrow.Author.Rules.{rules}
 use Rattle.wrapper.proofs.put_joined.Goals as goal
 
 pub returns : goal.returns

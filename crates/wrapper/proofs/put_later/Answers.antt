@@ -1,8 +1,7 @@
 -- `wrapper::put_later` meets its contract: the invariant is that what is still to be put, where it has come to, is the whole. Assumes nothing.
 use Rattle.octets.proofs.Laws.{bytes_all}
-use borrow.Author.Rules.{rules}
 use native.Mathlib.Omega.{arith}
-use Rattle.wrapper.proofs.Later.{Puts, puts_start, puts_inside, puts_next, puts_end}
+use Rattle.wrapper.proofs.Later.{puts_next, puts_end}
 use Rattle.wrapper.proofs.put_later.Goals as goal
 
 pub loop-todo-preserved : goal.loop-todo-preserved

@@ -1,7 +1,4 @@
-use Rattle.octets.proofs.Laws.{bytes_all}
-use borrow.Author.Rules.{rules}
-use native.Mathlib.Omega.{arith}
-use Rattle.wrapper.proofs.Later.{Puts, puts_start, puts_inside, puts_next, puts_end}
+use Rattle.wrapper.proofs.Later.{Puts}
 use Rattle.wrapper.proofs.put_later.Given as goal
 
 abbrev pub invariant-loop-todo : goal.invariant-loop-todo

@@ -1,10 +1,6 @@
 -- `wrapper::send` meets its contract: the first outer packet, those behind it, and what is left. Assumes nothing.
-use Prim.Native.Nat.{◌+◌}
 use mathlib.Core.Path.{refl}
-use Rattle.rtp.specs.Header.{header_bytes}
-use Rattle.wrapper.proofs.Fills.{less_one, fill_says}
-use native.Mathlib.Omega.{arith}
-use borrow.Author.Rules.{rules}
+use Rattle.wrapper.proofs.Fills.{fill_says}
 use Rattle.wrapper.proofs.send.Goals as goal
 
 pub returns : goal.returns

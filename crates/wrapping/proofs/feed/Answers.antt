@@ -1,7 +1,6 @@
 -- `wrapping::feed` meets its contract: the writer's outer packets, put as records, and its answer, told. Assumes nothing.
 use native.Mathlib.Omega.{arith}
 use Rattle.wrapping.proofs.Laws.{feed_room, feed_says}
-use borrow.Author.Rules.{rules}
 use Rattle.wrapping.proofs.feed.Goals as goal
 
 pub put_outers-end-requires : goal.put_outers-end-requires

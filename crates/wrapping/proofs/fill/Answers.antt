@@ -26,10 +26,11 @@ loop-out-smaller c = let l = c.loop-out in doing_less wrap_channels _ _ _ _ _ _ 
 
 pub loop-out-preserved : goal.loop-out-preserved
 loop-out-preserved c =
-    let l = c.loop-out in
-    (doing_more wrap_channels _ _ _ _ _ _ _ _ _ _ l.invariant.0 _ _ _ _ _ _ c.turn-f.ensures both_fit c.loop-out-test.true c.if-f-at.false,
-    omega arith,
-    turned-size (state l.m l.bytes l.t l.n) c.args.file.now l.at l.out l.to l.report l.told _ _ _ _ _ _ c.turn-f.ensures ∙ l.invariant.2)
+    let l = c.loop-out in (
+      doing_more wrap_channels _ _ _ _ _ _ _ _ _ _ l.invariant.0 _ _ _ _ _ _ c.turn-f.ensures both_fit c.loop-out-test.true c.if-f-at.false,
+      omega arith,
+      turned-size (state l.m l.bytes l.t l.n) c.args.file.now l.at l.out l.to l.report l.told _ _ _ _ _ _ c.turn-f.ensures ∙ l.invariant.2,
+    )
 
 pub returns-clause-fills : goal.returns-clause-fills
 returns-clause-fills c =

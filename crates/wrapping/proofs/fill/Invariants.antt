@@ -1,12 +1,8 @@
-use mathlib.Core.Path.{◌≡◌, refl, ap, ◌∙◌}
+use mathlib.Core.Path.{◌≡◌}
 use Prim.Native.Nat.{◌-◌}
-use native.Mathlib.Omega.{arith}
 use lib.ListN.{length}
-use Rattle.records.proofs.Channels.{Doing, doing_start, doing_full, doing_stops, doing_less, doing_more}
-use Rattle.wrapper.specs.declared.Numbers.{Numbers}
-use Rattle.wrapping.specs.Wrapping.{State, state, wrap_channels}
-use Rattle.wrapping.proofs.Laws.{same_state, both_fit, turned-size}
-use borrow.Author.Rules.{rules}
+use Rattle.records.proofs.Channels.{Doing}
+use Rattle.wrapping.specs.Wrapping.{state, wrap_channels}
 use Rattle.wrapping.proofs.fill.Given as goal
 
 abbrev pub invariant-loop-out : goal.invariant-loop-out

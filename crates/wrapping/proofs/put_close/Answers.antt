@@ -1,6 +1,5 @@
 -- `wrapping::put_close` meets its contract: the last outer packet, if there is one, put as a record. Assumes nothing.
 use Rattle.wrapping.proofs.Laws.{close_none, close_room, close_says}
-use borrow.Author.Rules.{rules}
 use Rattle.wrapping.proofs.put_close.Goals as goal
 
 pub returns-then-v-eq0 : goal.returns-then-v-eq0

@@ -1,6 +1,5 @@
 -- `wrapping::put_outers` meets its contract: the invariant is that what is still to be put, where it has come to, is the whole. Assumes nothing.
-use native.Mathlib.Omega.{arith}
-use Rattle.wrapping.proofs.Outers.{Puts, puts_start, puts_inside, puts_next, puts_end}
+use Rattle.wrapping.proofs.Outers.{puts_next, puts_end}
 use Rattle.wrapping.proofs.put_outers.Goals as goal
 
 pub loop-todo-preserved : goal.loop-todo-preserved

@@ -1,5 +1,4 @@
-use native.Mathlib.Omega.{arith}
-use Rattle.wrapping.proofs.Outers.{Puts, puts_start, puts_inside, puts_next, puts_end}
+use Rattle.wrapping.proofs.Outers.{Puts}
 use Rattle.wrapping.proofs.put_outers.Given as goal
 
 abbrev pub invariant-loop-todo : goal.invariant-loop-todo

@@ -1,11 +1,7 @@
 -- `wrapping::size_of` meets its contract. The loop's invariant: the digits that are left, behind the number so far, say the whole; the measure is what is left of
 -- the word. Assumes nothing.
 use mathlib.Core.Path.{sym, ◌∙◌}
-use Prim.Native.Nat.{◌-◌}
-use native.Mathlib.Omega.{arith}
-use lib.ListN.{length}
-use Rattle.wrapping.proofs.Words.{digit_below, digit_above, digit_is, Reads, reads_start, reads_none, reads_more, reads_size, reads_other}
-use borrow.Author.Rules.{rules}
+use Rattle.wrapping.proofs.Words.{digit_below, digit_above, digit_is, reads_none, reads_more, reads_size, reads_other}
 use Rattle.wrapping.proofs.size_of.Goals as goal
 
 pub returns-then-word-i-lt48 : goal.returns-then-word-i-lt48

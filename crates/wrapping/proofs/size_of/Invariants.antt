@@ -1,9 +1,6 @@
-use mathlib.Core.Path.{sym, ◌∙◌}
 use Prim.Native.Nat.{◌-◌}
-use native.Mathlib.Omega.{arith}
 use lib.ListN.{length}
-use Rattle.wrapping.proofs.Words.{digit_below, digit_above, digit_is, Reads, reads_start, reads_none, reads_more, reads_size, reads_other}
-use borrow.Author.Rules.{rules}
+use Rattle.wrapping.proofs.Words.{Reads}
 use Rattle.wrapping.proofs.size_of.Given as goal
 
 abbrev pub invariant-loop-i : goal.invariant-loop-i

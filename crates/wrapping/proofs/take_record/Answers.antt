@@ -1,5 +1,5 @@
 -- `wrapping::take_record` meets its contract: a timestamp is kept, a packet is given to the writer. Assumes nothing.
-use mathlib.Core.Path.{◌≡◌, sym, ◌∙◌}
+use mathlib.Core.Path.{sym, ◌∙◌}
 use native.Mathlib.Omega.{arith}
 use Prim.Native.Nat.{◌+◌, ◌≤◌}
 use Rattle.records.specs.Records.{mark_bytes, length_bytes}

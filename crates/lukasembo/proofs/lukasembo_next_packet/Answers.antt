@@ -1,0 +1,8 @@
+-- `lukasembo::lukasembo_next_packet` meets its contract: a packet's length fits sixteen bits. Assumes nothing.
+use Rattle.std.proofs.Common.{arith, sym, drop}
+use Rattle.store.proofs.Laws.{packet_means}
+use Rattle.lukasembo.proofs.lukasembo_next_packet.Goals as goal
+
+pub overflow_mul-result : goal.overflow_mul-result
+overflow_mul-result c = let a = c.args in
+    omega (arith, (packet_means (drop a.at a.store.now) _ (sym c.in-Packet.ensures)).1)
