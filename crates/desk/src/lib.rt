@@ -203,6 +203,7 @@ impl Desk {
     }
 
     // How much of a buffer is shown.
+    #[tactic(auto, unfolding(crate::specs::Desks::shown_length))]
     fn shown_length(self, kind: Kind, first: &[u8], second: &[u8]) -> usize
         ensures { result ≡ shown_length kind self first.now second.now }
     {
