@@ -17,6 +17,7 @@ ghost use Rattle.wrapping.specs.Words.{size_in};
 ghost use Rattle.wrap_stream.specs.Streams.{wrap_statuses};
 
 use manners::Ending;
+use std::io::{Read, Write};
 use store::Next;
 use tunnel::{Fed, Numbers, Unwrapped, Values};
 
@@ -92,13 +93,23 @@ pub fn next_packet_for_c(store: &[u8], at: usize) -> u64
     lukasembo::lukasembo_next_packet(store, at)
 }
 
-pub fn copy(from: i32, to: i32, aside: i32, block: &mut [u8; 131072]) -> Ending
+pub fn copy<R: Read, W: Write, V: Write>(
+    from: &mut R,
+    to: &mut W,
+    aside: &mut V,
+    block: &mut [u8; 131072],
+) -> Ending
     ensures { T (among run_statuses (status_of result)) }
 {
     unwrap_stream::copy(from, to, aside, block)
 }
 
-pub fn copy_slowly(from: i32, to: i32, aside: i32, block: &mut [u8; 65539]) -> Ending
+pub fn copy_slowly<R: Read, W: Write, V: Write>(
+    from: &mut R,
+    to: &mut W,
+    aside: &mut V,
+    block: &mut [u8; 65539],
+) -> Ending
     ensures { T (among run_statuses (status_of result)) }
 {
     unwrap_stream::copy_slowly(from, to, aside, block)
@@ -180,17 +191,23 @@ pub fn size_of(word: &[u8]) -> usize
     wrapping::size_of(word)
 }
 
-pub fn copy_wrapped(size: usize, from: i32, to: i32, aside: i32, block: &mut [u8; 131072]) -> Ending
+pub fn copy_wrapped<R: Read, W: Write, V: Write>(
+    size: usize,
+    from: &mut R,
+    to: &mut W,
+    aside: &mut V,
+    block: &mut [u8; 131072],
+) -> Ending
     ensures { T (among (wrap_statuses size) (status_of result)) }
 {
     wrap_stream::copy(size, from, to, aside, block)
 }
 
-pub fn copy_wrapped_slowly(
+pub fn copy_wrapped_slowly<R: Read, W: Write, V: Write>(
     size: usize,
-    from: i32,
-    to: i32,
-    aside: i32,
+    from: &mut R,
+    to: &mut W,
+    aside: &mut V,
     block: &mut [u8; 1504],
 ) -> Ending
     ensures { T (among (wrap_statuses size) (status_of result)) }
