@@ -16,6 +16,7 @@ use guides::{Answer, Gathering, Told, Values};
 use manners::Ending;
 use records::Entry;
 use sections::{Place, Refusal, Standing};
+use std::io::{Read, Write};
 
 // ---- a section
 
@@ -102,13 +103,13 @@ pub fn entry_at(file: &[u8], at: usize) -> Entry
     guiding::entry_at(file, at)
 }
 
-pub fn copy(from: i32, to: i32, block: &mut [u8; 131072]) -> Ending
+pub fn copy<R: Read, W: Write>(from: &mut R, to: &mut W, block: &mut [u8; 131072]) -> Ending
     ensures { T (among run_statuses (status_of result)) }
 {
     guide_stream::copy(from, to, block)
 }
 
-pub fn copy_slowly(from: i32, to: i32, block: &mut [u8; 65539]) -> Ending
+pub fn copy_slowly<R: Read, W: Write>(from: &mut R, to: &mut W, block: &mut [u8; 65539]) -> Ending
     ensures { T (among run_statuses (status_of result)) }
 {
     guide_stream::copy_slowly(from, to, block)
