@@ -15,6 +15,7 @@ use explains::Explained;
 use manners::Ending;
 use records::Entry;
 use slots::Slot;
+use std::io::{Read, Write};
 
 pub fn explain_chunk(chunk: &[u8]) -> Explained
     ensures { result ≡ chunk_explained chunk.now }
@@ -60,13 +61,13 @@ pub fn entry_at(file: &[u8], at: usize) -> Entry
     explaining::entry_at(file, at)
 }
 
-pub fn copy(from: i32, to: i32, block: &mut [u8; 131072]) -> Ending
+pub fn copy<R: Read, W: Write>(from: &mut R, to: &mut W, block: &mut [u8; 131072]) -> Ending
     ensures { T (among run_statuses (status_of result)) }
 {
     explain_stream::copy(from, to, block)
 }
 
-pub fn copy_slowly(from: i32, to: i32, block: &mut [u8; 65539]) -> Ending
+pub fn copy_slowly<R: Read, W: Write>(from: &mut R, to: &mut W, block: &mut [u8; 65539]) -> Ending
     ensures { T (among run_statuses (status_of result)) }
 {
     explain_stream::copy_slowly(from, to, block)

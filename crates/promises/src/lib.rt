@@ -27,6 +27,7 @@ use manners::{Came, Ending, Sent};
 use meaning::{Checked, Kind, Read, Refusal};
 use records::{Entry, Form};
 use slots::Slot;
+use std::io;
 use typed::Reply;
 use writer::{Unwritten, Written};
 
@@ -220,19 +221,27 @@ pub fn stops(step: Step) -> bool
     blocks::stops(step)
 }
 
-pub fn copy(from: i32, to: i32, block: &mut [u8; 65536]) -> Ending
+pub fn copy<R: io::Read, W: io::Write>(from: &mut R, to: &mut W, block: &mut [u8; 65536]) -> Ending
     ensures { T (among run_statuses (status_of result)) }
 {
     stream::copy(from, to, block)
 }
 
-pub fn copy_slowly(from: i32, to: i32, block: &mut [u8; 39]) -> Ending
+pub fn copy_slowly<R: io::Read, W: io::Write>(
+    from: &mut R,
+    to: &mut W,
+    block: &mut [u8; 39],
+) -> Ending
     ensures { T (among run_statuses (status_of result)) }
 {
     stream::copy_slowly(from, to, block)
 }
 
-pub fn reply(from: i32, to: i32, reasons: i32) -> Ending
+pub fn reply<R: io::Read, W: io::Write, V: io::Write>(
+    from: &mut R,
+    to: &mut W,
+    reasons: &mut V,
+) -> Ending
     ensures { T (among reply_statuses (status_of result)) }
 {
     replies::reply(from, to, reasons)
