@@ -1,11 +1,8 @@
 -- `copies::blocks` meets its contract. The loop's invariant: the first i are copied; the measure is what is left. Assumes nothing.
-use borrow.Author.Rules.{rules}
 use native.Mathlib.Omega.{arith}
-use Prim.Native.Nat.{◌+◌, ◌-◌, ◌≤◌}
-use mathlib.Core.Path.{◌≡◌, refl}
-use lib.ListN.{length}
-use lib.Seq.{sets}
-use Rattle.copies.proofs.Laws.{part, sets_more}
+use Prim.Native.Nat.{◌+◌, ◌-◌}
+use mathlib.Core.Path.{refl}
+use Rattle.copies.proofs.Laws.{sets_more}
 use Rattle.copies.proofs.blocks.Goals as goal
 
 pub loop-i-init : goal.loop-i-init

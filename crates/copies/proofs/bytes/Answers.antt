@@ -1,11 +1,8 @@
 -- `copies::bytes` meets its contract. The loop's invariant: the first i are copied; the measure is what is left. Assumes nothing.
-use borrow.Author.Rules.{rules}
 use native.Mathlib.Omega.{arith}
-use Prim.Native.Nat.{◌-◌, ◌≤◌}
 use mathlib.Core.Path.{◌≡◌, refl}
-use lib.ListN.{length, length-set}
-use lib.Seq.{sets}
-use Rattle.copies.proofs.Laws.{part, set_more}
+use lib.ListN.{length-set}
+use Rattle.copies.proofs.Laws.{set_more}
 use Rattle.copies.proofs.bytes.Goals as goal
 
 pub loop-i-init : goal.loop-i-init

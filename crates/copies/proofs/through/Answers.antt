@@ -1,5 +1,4 @@
 -- `copies::through` meets its contract: what the array holds is the part that was asked for. Assumes nothing.
-use borrow.Author.Rules.{rules}
 use Rattle.copies.proofs.Laws.{sets_held}
 use Rattle.copies.proofs.through.Goals as goal
 

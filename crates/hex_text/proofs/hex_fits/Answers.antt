@@ -1,13 +1,10 @@
 -- `hex::hex_fits` meets its contract. The loop's invariant: the tests on the bytes left, from here on, are the tests asked for. The measure is
 -- the number of bytes left. Assumes nothing.
-use Prim.Native.Nat.{◌+◌, ◌*◌, ◌≤◌}
-use mathlib.Core.Path.{◌≡◌, refl, sym, ap₂, ◌∙◌}
+use mathlib.Core.Path.{refl, sym, ap₂, ◌∙◌}
 use mathlib.Core.Bool.{◌&&◌}
 use borrow.Author.Tests.{lt-ltb, le-ltb}
-use lib.ListN.{length, drop}
-use Rattle.hex_text.specs.Hex.{hex_fits}
+use lib.ListN.{drop}
 use Rattle.hex_text.proofs.Read.{fits_tests, fits_none}
-use borrow.Author.Rules.{rules}
 use native.Mathlib.Omega.{arith}
 use Rattle.hex_text.proofs.hex_fits.Goals as goal
 

@@ -1,12 +1,7 @@
 use Prim.Native.Nat.{◌+◌, ◌*◌, ◌≤◌}
-use mathlib.Core.Path.{◌≡◌, refl, sym, ap₂, ◌∙◌}
-use mathlib.Core.Bool.{◌&&◌}
-use borrow.Author.Tests.{lt-ltb, le-ltb}
+use mathlib.Core.Path.{◌≡◌}
 use lib.ListN.{length, drop}
 use Rattle.hex_text.specs.Hex.{hex_fits}
-use Rattle.hex_text.proofs.Read.{fits_tests, fits_none}
-use borrow.Author.Rules.{rules}
-use native.Mathlib.Omega.{arith}
 use Rattle.hex_text.proofs.hex_fits.Given as goal
 
 abbrev pub invariant-loop-left : goal.invariant-loop-left

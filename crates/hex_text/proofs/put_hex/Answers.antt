@@ -1,12 +1,8 @@
 -- `hex::put_hex` meets its contract. The loop's invariant: the bytes left, put here in hex, make the whole that was asked for. The measure is
 -- the number of bytes left. Assumes nothing.
-use borrow.Author.Rules.{rules}
 use native.Mathlib.Omega.{arith}
-use Prim.Native.Nat.{◌+◌, ◌-◌, ◌*◌, ◌≤◌}
-use mathlib.Core.Path.{◌≡◌, refl, sym, ◌∙◌}
-use lib.ListN.{length, drop, length-set}
-use lib.Seq.{sets}
-use Rattle.hex_text.specs.Hex.{hex}
+use mathlib.Core.Path.{refl, sym, ◌∙◌}
+use lib.ListN.{length-set}
 use Rattle.hex_text.proofs.Written.{length-hex, hex_next, hex_none}
 use Rattle.hex_text.proofs.put_hex.Goals as goal
 

@@ -1,14 +1,12 @@
 -- `hex::take_hex` meets its contract. The loop's invariant: the digits that are left are digits, and what is left, put here, makes the whole
 -- that was asked for. The measure is the number of bytes left. Assumes nothing.
-use Prim.Native.Nat.{ℕ, ◌+◌, ◌-◌, ◌*◌, ◌≤◌}
+use Prim.Native.Nat.{ℕ, ◌+◌, ◌-◌}
 use mathlib.Core.Path.{◌≡◌, refl, sym, ap, ◌∙◌}
-use mathlib.Core.Bool.{true}
 use native.Mathlib.Nat.{sub-zero}
-use lib.ListN.{length, drop, length-set}
+use lib.ListN.{drop, length-set}
 use lib.Seq.{sets}
 use Rattle.hex_text.specs.Hex.{hex_fits, hex_said}
 use Rattle.hex_text.proofs.Read.{fits_next, said_next, said_none}
-use borrow.Author.Rules.{rules}
 use native.Mathlib.Omega.{arith}
 use Rattle.hex_text.proofs.take_hex.Goals as goal
 

@@ -1,9 +1,5 @@
 -- `records::counted_at` meets its contract, test by test. Assumes nothing.
-use Prim.Native.Nat.{◌+◌, ◌-◌, ◌≤◌}
-use lib.ListN.{length}
-use Rattle.records.specs.Records.{mark_bytes, length_bytes}
 use Rattle.records.proofs.Entries.{counted-short, counted_less, counted_more, counted-cut, counted_whole}
-use borrow.Author.Rules.{rules}
 use Rattle.records.proofs.counted_at.Goals as goal
 
 pub returns-then-left : goal.returns-then-left

@@ -1,6 +1,5 @@
 -- `records::entry_at` meets its contract, test by test. Assumes nothing.
 use Rattle.records.proofs.Entries.{as_end, as_short, as_foreign, as_cut, as_whole, as_counted}
-use borrow.Author.Rules.{rules}
 use Rattle.records.proofs.entry_at.Goals as goal
 
 pub returns-then-file-at : goal.returns-then-file-at

@@ -1,7 +1,6 @@
 -- `records::mark_at` meets its contract. Assumes nothing.
 use native.Mathlib.Omega.{arith}
 use Rattle.records.proofs.Entries.{mark_none, mark_there}
-use borrow.Author.Rules.{rules}
 use Rattle.records.proofs.mark_at.Goals as goal
 
 pub returns-then-file-at : goal.returns-then-file-at

@@ -3,7 +3,6 @@ use native.Mathlib.Omega.{arith}
 use Rattle.text.specs.Text.{text, numbered}
 use Rattle.text.proofs.Laws.{put_same, put_both, length-numbered}
 use Rattle.records.proofs.Entries.{end_number_small, last_is}
-use borrow.Author.Rules.{rules}
 use Rattle.records.proofs.put_last.Goals as goal
 
 pub put_numbered-requires : goal.put_numbered-requires

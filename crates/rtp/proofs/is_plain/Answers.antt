@@ -2,7 +2,6 @@
 use mathlib.Core.Path.{sym, ◌∙◌}
 use borrow.Author.Tests.{eq-eqb, ne_eqb}
 use Rattle.rtp.proofs.Laws.{plain-short, plain-bytes}
-use borrow.Author.Rules.{rules}
 use Rattle.rtp.proofs.is_plain.Goals as goal
 
 pub returns-then-packet-lt-HEADER_BYTES : goal.returns-then-packet-lt-HEADER_BYTES

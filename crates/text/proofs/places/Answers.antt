@@ -1,10 +1,6 @@
 -- `text::places` meets its contract. The loop's invariant: the digits counted and those of the rest are one more than all. The measure is the
 -- rest. Assumes nothing.
-use Prim.Native.Nat.{◌+◌}
-use mathlib.Core.Path.{◌≡◌}
 use native.Mathlib.Omega.{arith}
-use lib.ListN.{length}
-use Rattle.text.specs.Text.{decimal}
 use Rattle.text.proofs.Laws.{length_small, length_large, length_wide}
 use Rattle.text.proofs.places.Goals as goal
 

@@ -1,12 +1,8 @@
 -- `text::put_digits` meets its contract. The loop's invariant: the place has come to the end of the rest's digits, and the rest, put at the start,
 -- makes the whole that was asked for. The measure is the rest. Assumes nothing.
-use Prim.Native.Nat.{◌+◌, ◌≤◌}
-use mathlib.Core.Path.{◌≡◌, refl, ◌∙◌}
-use borrow.Author.Rules.{rules}
+use mathlib.Core.Path.{refl, ◌∙◌}
 use native.Mathlib.Omega.{arith}
-use lib.ListN.{length, length-set}
-use lib.Seq.{sets}
-use Rattle.text.specs.Text.{decimal}
+use lib.ListN.{length-set}
 use Rattle.text.proofs.Laws.{length_small, length_large, digit_last, digit_next}
 use Rattle.text.proofs.put_digits.Goals as goal
 

@@ -1,11 +1,8 @@
 use Prim.Native.Nat.{◌+◌, ◌≤◌}
-use mathlib.Core.Path.{◌≡◌, refl, ◌∙◌}
-use borrow.Author.Rules.{rules}
-use native.Mathlib.Omega.{arith}
-use lib.ListN.{length, length-set}
+use mathlib.Core.Path.{◌≡◌}
+use lib.ListN.{length}
 use lib.Seq.{sets}
 use Rattle.text.specs.Text.{decimal}
-use Rattle.text.proofs.Laws.{length_small, length_large, digit_last, digit_next}
 use Rattle.text.proofs.put_digits.Given as goal
 
 abbrev pub invariant-loop-rest : goal.invariant-loop-rest

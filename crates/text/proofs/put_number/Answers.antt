@@ -1,7 +1,6 @@
 -- `text::put_number` meets its contract: one digit, or as many as there are. Assumes nothing.
 use native.Mathlib.Omega.{arith}
 use Rattle.text.proofs.Laws.{length_small, digit_only}
-use borrow.Author.Rules.{rules}
 use Rattle.text.proofs.put_number.Goals as goal
 
 pub bounds-out-to : goal.bounds-out-to

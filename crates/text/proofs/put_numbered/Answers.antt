@@ -1,7 +1,6 @@
 -- `text::put_numbered` meets its contract: the number, and the end of the line behind it. Assumes nothing.
 use mathlib.Core.Path.{refl}
 use native.Mathlib.Omega.{arith}
-use borrow.Author.Rules.{rules}
 use lib.ListN.{length-append}
 use Rattle.text.specs.Text.{newline, decimal}
 use Rattle.text.proofs.Laws.{put_both}

@@ -1,7 +1,6 @@
 -- `text::put_offset` meets its contract: nothing, or the words and the offset behind them. Assumes nothing.
 use native.Mathlib.Omega.{arith}
 use mathlib.Core.Path.{refl}
-use borrow.Author.Rules.{rules}
 use Rattle.text.specs.Text.{text, decimal}
 use Rattle.text.proofs.Laws.{put_same, put_both, length_wide, offset_none, offset_some}
 use Rattle.text.proofs.put_offset.Goals as goal

@@ -2,7 +2,6 @@
 use native.Mathlib.Omega.{arith}
 use Rattle.text.specs.Text.{newline, decimal, offset_text, refused_with}
 use Rattle.text.proofs.Laws.{put_both, length-decimal, length-offset}
-use borrow.Author.Rules.{rules}
 use Rattle.text.proofs.put_refused.Goals as goal
 
 pub put_number-at-requires : goal.put_number-at-requires

@@ -1,11 +1,10 @@
 -- `text::put_text` meets its contract. The loop's invariant: what is left of the word, put here, makes the whole that was asked for. The measure
 -- is the length that is left. Assumes nothing.
-use borrow.Author.Rules.{rules}
 use native.Mathlib.Omega.{arith}
-use Prim.Native.Nat.{ℕ, ◌+◌, ◌-◌, ◌≤◌}
+use Prim.Native.Nat.{ℕ, ◌+◌}
 use native.Mathlib.Nat.{add-zero}
-use mathlib.Core.Path.{◌≡◌, refl, sym, ap, ◌∙◌}
-use lib.ListN.{length, drop, length-set}
+use mathlib.Core.Path.{refl, sym, ap, ◌∙◌}
+use lib.ListN.{length-set}
 use lib.Seq.{sets}
 use Rattle.octets.proofs.Stores.{copy_next, copy_done}
 use Rattle.text.proofs.put_text.Goals as goal
