@@ -1,13 +1,10 @@
 /* Lukasembo for programs in C: the reader and the writer of FIC chunks, what explains their refusals, those of the tunnel, and the reader of the guide table, proved to
  * meet the definitions of this repository.
  *
- * Linking. The archive is target/staticlib/liblukasembo.a, made by c/build. It is for x86-64 and needs nothing of the C library:
+ * Linking. The archive is target/staticlib/liblukasembo.a, made by c/build. It is for x86-64 (x86-64-v2: processors from about 2009 on) and
+ * needs nothing of the C library:
  *
  *     gcc -Iinclude my.c target/staticlib/liblukasembo.a
- *
- * On Arm too it links only into x86-64 programs, with Debian's gcc-x86-64-linux-gnu and libc6-dev-amd64-cross; the kit's emulator runs them (c/with):
- *
- *     x86_64-linux-gnu-gcc -static -Iinclude my.c target/staticlib/liblukasembo.a && c/with ./a.out
  *
  * Memory. All of it is the caller's, before, during and after a call: nothing is allocated, kept or freed. No pointer may be null, also where its length
  * is 0; no two of the memories that are lent to one call may overlap. A call may be given bytes of any content and length; it always answers.

@@ -3,11 +3,11 @@
 #![tactic(auto)]
 
 use std::io::Write;
-use std::rt::Files;
-use std::{env, io};
+use std::rt::{Env, Files};
 
 fn run_slowly<R: Files + Eprint, W: Write>(rt: &R, to: &mut W, name: &str) {
-    if let Some(mut file) = samples::open(rt, to, name, 65539, b"\n") {
+    let mut file = samples::open(rt, to, name, 65539, b"\n");
+    if file.is_open() {
         let mut block = [0u8; 65539];
         let ending = explain_stream::copy_slowly(&mut file, to, &mut block);
         samples::end(to, ending);
@@ -15,23 +15,32 @@ fn run_slowly<R: Files + Eprint, W: Write>(rt: &R, to: &mut W, name: &str) {
 }
 
 fn run<R: Files + Eprint, W: Write>(rt: &R, to: &mut W, name: &str) {
-    if let Some(mut file) = samples::open(rt, to, name, 131072, b"\n") {
+    let mut file = samples::open(rt, to, name, 131072, b"\n");
+    if file.is_open() {
         let mut block = [0u8; 131072];
         let ending = explain_stream::copy(&mut file, to, &mut block);
         samples::end(to, ending);
     }
 }
 
-// The file that one argument names.
-fn run_named<R: Files + Eprint, W: Write>(rt: &R, to: &mut W, name: &str) {
-    run_slowly(rt, to, name);
-    run(rt, to, name);
+// The file that one argument names; false where there is none.
+fn run_named<R: Env + Files + Eprint, W: Write>(rt: &R, to: &mut W, index: usize) -> bool {
+    let mut memory = [0u8; 4096];
+    match samples::named(rt, index, &mut memory) {
+        Some(name) => {
+            run_slowly(rt, to, name);
+            run(rt, to, name);
+            true
+        }
+        None => false,
+    }
 }
 
-fn main(rt: HostRuntime) -> io::Result<()> {
+fn main(rt: HostRuntime) {
     let mut to = rt.stdout();
-    for name in env::args(&rt)?.skip(1) {
-        run_named(&rt, &mut to, name.as_str());
+    for index in 1..64 {
+        if !run_named(&rt, &mut to, index) {
+            break;
+        }
     }
-    Ok(())
 }

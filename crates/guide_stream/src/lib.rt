@@ -17,7 +17,7 @@ use manners::Ending;
 use std::io::{Read, Write};
 
 // After a turn: the gathering, how much was put to the output, and what is unread.
-#[derive(Drop)]
+#[derive(Clone, Copy)]
 struct Turned {
     gathering: Gathering,
     wrote: usize,

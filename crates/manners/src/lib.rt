@@ -326,8 +326,8 @@ fn fail<W: Write>(to: &mut W, name: &[u8], what: &[u8], error: Option<io::Error>
     let _ = to.write_all(b"\n");
 }
 
-// The system's words for an error, which come before its number.
-fn words_of(text: &str) -> &str {
+// The system's words for an error, of its text, where they come before its number.
+pub fn words_of(text: &str) -> &str {
     match text.split_once(" (os error ") {
         Some((words, _)) => words,
         None => text,

@@ -33,7 +33,7 @@ pub const GATHERING_MARK: u16 = GA[0] as u16 * 256 + GA[1] as u16;
 const SEGMENT_MARK: u16 = SG[0] as u16 * 256 + SG[1] as u16;
 
 // After some records: the desk's numbers, the next place of the log, and the next place of the output.
-#[derive(Drop)]
+#[derive(Clone, Copy)]
 pub struct Filled {
     pub notes: Notes,
     pub read: usize,
@@ -41,14 +41,14 @@ pub struct Filled {
 }
 
 // After a record: the desk's numbers, and the next place of the output.
-#[derive(Drop)]
+#[derive(Clone, Copy)]
 pub struct Turned {
     pub notes: Notes,
     pub to: usize,
 }
 
 // After a segment: the same, and the answer to it.
-#[derive(Drop)]
+#[derive(Clone, Copy)]
 pub struct Answered {
     pub notes: Notes,
     pub to: usize,

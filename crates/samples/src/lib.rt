@@ -2,12 +2,45 @@
 #![tactic(auto)]
 
 use manners::Ending;
-use std::fs;
-use std::io::Write;
-use std::rt::Files;
+use std::fmt::InlineText;
+use std::io::{Read, Write};
+use std::rt::{Env, Files};
+use std::{fs, io};
+
+// The system's number of the error where no file is open.
+const BAD_DESCRIPTOR: i32 = 9;
 
 pub fn say<W: Write>(to: &mut W, text: &[u8]) {
     let _ = to.write_all(text);
+}
+
+// The name that one argument says; none where there is no such argument, or it is longer than the memory for it or no text.
+pub fn named<'a, R: Env>(rt: &R, index: usize, name: &'a mut [u8; 4096]) -> Option<&'a str> {
+    match rt.arg(index, name) {
+        Ok(length) => str::from_utf8(&name[..length]).ok(),
+        Err(_) => None,
+    }
+}
+
+// A stored file; one that could not be opened fails when it is read.
+#[derive(Drop)]
+pub struct Stored<F> {
+    file: Option<F>,
+}
+
+impl<F> Stored<F> {
+    pub fn is_open(&self) -> bool {
+        self.file.is_some()
+    }
+}
+
+impl<F: Read> Read for Stored<F> {
+    fn read(&mut self, buf: &mut [u8]) -> io::Result<usize> {
+        match &mut self.file {
+            Some(file) => file.read(buf),
+            None => Err(io::Error::from_raw_os_error(BAD_DESCRIPTOR)),
+        }
+    }
 }
 
 // Says what follows, and opens the file; where that fails, it says so on standard error.
@@ -17,7 +50,7 @@ pub fn open<R: Files + Eprint, W: Write>(
     name: &str,
     blocks: u64,
     what: &[u8],
-) -> Option<R::File> {
+) -> Stored<R::File> {
     say(to, name.as_bytes());
     let _ = write!(to, ", blocks of {blocks}");
     say(to, what);
@@ -25,14 +58,21 @@ pub fn open<R: Files + Eprint, W: Write>(
 }
 
 // A file; where it cannot be opened, it says so on standard error.
-pub fn opened<R: Files + Eprint>(rt: &R, name: &str) -> Option<R::File> {
+pub fn opened<R: Files + Eprint>(rt: &R, name: &str) -> Stored<R::File> {
     match fs::open(rt, name) {
-        Ok(file) => Some(file),
+        Ok(file) => Stored { file: Some(file) },
         Err(e) => {
-            let _ = rt.eprintln(format_args!("{name}: {e}"));
-            None
+            tell(rt, name, e);
+            Stored { file: None }
         }
     }
+}
+
+// A line on standard error: the file's name, and the system's words for the error.
+fn tell<R: Eprint>(rt: &R, name: &str, error: io::Error) {
+    let text: InlineText<256> = InlineText::of(error);
+    let words = manners::words_of(text.as_str());
+    let _ = rt.eprintln(format_args!("{name}: {words}"));
 }
 
 // Says the status of a program that ended so.

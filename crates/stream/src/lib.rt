@@ -20,7 +20,7 @@ use notes::Notes;
 use std::io::{Read, Write};
 
 // After a turn: the desk's numbers, how much was put to the output, and what is unread.
-#[derive(Drop)]
+#[derive(Clone, Copy)]
 struct Turned {
     notes: Notes,
     wrote: usize,

@@ -18,7 +18,7 @@ use std::io::{Read, Write};
 use tunnel::Numbers;
 
 // After a turn: the reader's numbers, how many records were read, how much was put to the output and to the report, and what is unread.
-#[derive(Drop)]
+#[derive(Clone, Copy)]
 struct Turned {
     numbers: Numbers,
     count: u64,

@@ -13,7 +13,7 @@ use records::{Entry, Form, LENGTH_BYTES, MARK_BYTES};
 use tunnel::{Numbers, SHORTEST_OUTPUT};
 
 // After some records: the reader's numbers, how many records were read, the next place of the file, of the output, and of the report.
-#[derive(Drop)]
+#[derive(Clone, Copy)]
 pub struct Filled {
     pub numbers: Numbers,
     pub count: u64,
@@ -23,7 +23,7 @@ pub struct Filled {
 }
 
 // After an outer packet: the reader's numbers, how many records were read, the next place of the output, and of the report.
-#[derive(Drop)]
+#[derive(Clone, Copy)]
 struct Told {
     numbers: Numbers,
     count: u64,

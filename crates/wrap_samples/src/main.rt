@@ -2,9 +2,9 @@
 // large one. Prints the outer packets, then the report and the status.
 #![tactic(auto)]
 
+use std::io;
 use std::io::Write;
-use std::rt::Files;
-use std::{env, io};
+use std::rt::{Env, Files};
 
 // Says what follows, and opens the file; where that fails, it says so on standard error.
 fn open<R: Files + Eprint, W: Write>(
@@ -14,7 +14,7 @@ fn open<R: Files + Eprint, W: Write>(
     word: &[u8],
     blocks: u64,
     what: &[u8],
-) -> Option<R::File> {
+) -> samples::Stored<R::File> {
     samples::say(to, b"size ");
     samples::say(to, word);
     samples::say(to, b", ");
@@ -25,44 +25,53 @@ fn open<R: Files + Eprint, W: Write>(
 fn run_slowly<R: Files + Eprint, W: Write>(rt: &R, to: &mut W, name: &str, word: &[u8]) {
     let mut block = [0u8; 1504];
     let size = wrapping::size_of(word);
-    if let Some(mut packets) = open(rt, to, name, word, 1504, b": packets\n") {
-        wrap_stream::copy_slowly(size, &mut packets, to, &mut io::sink(), &mut block);
-    }
+    let mut packets = open(rt, to, name, word, 1504, b": packets\n");
+    wrap_stream::copy_slowly(size, &mut packets, to, &mut io::sink(), &mut block);
     samples::say(to, b"\n");
-    if let Some(mut report) = open(rt, to, name, word, 1504, b": report\n") {
-        let ending = wrap_stream::copy_slowly(size, &mut report, &mut io::sink(), to, &mut block);
-        samples::end(to, ending);
-    }
+    let mut report = open(rt, to, name, word, 1504, b": report\n");
+    let ending = wrap_stream::copy_slowly(size, &mut report, &mut io::sink(), to, &mut block);
+    samples::end(to, ending);
 }
 
 // Through a large one.
 fn run<R: Files + Eprint, W: Write>(rt: &R, to: &mut W, name: &str, word: &[u8]) {
     let mut block = [0u8; 131072];
     let size = wrapping::size_of(word);
-    if let Some(mut packets) = open(rt, to, name, word, 131072, b": packets\n") {
-        wrap_stream::copy(size, &mut packets, to, &mut io::sink(), &mut block);
-    }
+    let mut packets = open(rt, to, name, word, 131072, b": packets\n");
+    wrap_stream::copy(size, &mut packets, to, &mut io::sink(), &mut block);
     samples::say(to, b"\n");
-    if let Some(mut report) = open(rt, to, name, word, 131072, b": report\n") {
-        let ending = wrap_stream::copy(size, &mut report, &mut io::sink(), to, &mut block);
-        samples::end(to, ending);
+    let mut report = open(rt, to, name, word, 131072, b": report\n");
+    let ending = wrap_stream::copy(size, &mut report, &mut io::sink(), to, &mut block);
+    samples::end(to, ending);
+}
+
+// The file that one argument names, with the size that another says; false where there is none.
+fn run_named<R: Env + Files + Eprint, W: Write>(
+    rt: &R,
+    to: &mut W,
+    size: usize,
+    file: usize,
+) -> bool {
+    let mut of_size = [0u8; 4096];
+    let mut of_file = [0u8; 4096];
+    match (
+        samples::named(rt, size, &mut of_size),
+        samples::named(rt, file, &mut of_file),
+    ) {
+        (Some(word), Some(name)) => {
+            run_slowly(rt, to, name, word.as_bytes());
+            run(rt, to, name, word.as_bytes());
+            true
+        }
+        _ => false,
     }
 }
 
-// The file that one argument names, with the size that another says.
-fn run_named<R: Files + Eprint, W: Write>(rt: &R, to: &mut W, name: &str, word: &[u8]) {
-    run_slowly(rt, to, name, word);
-    run(rt, to, name, word);
-}
-
-fn main(rt: HostRuntime) -> io::Result<()> {
+fn main(rt: HostRuntime) {
     let mut to = rt.stdout();
-    let mut given = env::args(&rt)?.skip(1);
-    for _ in 0..128 {
-        let (Some(word), Some(name)) = (given.next(), given.next()) else {
+    for pair in 0..128 {
+        if !run_named(&rt, &mut to, 2 * pair + 1, 2 * pair + 2) {
             break;
-        };
-        run_named(&rt, &mut to, name.as_str(), word.as_bytes());
+        }
     }
-    Ok(())
 }

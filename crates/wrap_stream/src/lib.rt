@@ -18,7 +18,7 @@ use std::io::{Read, Write};
 use wrapper::Numbers;
 
 // After a turn: the writer's numbers, the timestamp, how many records were read, how much was put to the output and to the report, and what is unread.
-#[derive(Drop)]
+#[derive(Clone, Copy)]
 struct Turned {
     numbers: Numbers,
     stamp: u32,

@@ -19,7 +19,7 @@ use store::PACKET_MARK;
 use wrapper::Numbers;
 
 // After some records: the writer's numbers, the timestamp, how many records were read, the next place of the file, of the output, and of the report.
-#[derive(Drop)]
+#[derive(Clone, Copy)]
 pub struct Filled {
     pub numbers: Numbers,
     pub stamp: u32,
@@ -30,7 +30,7 @@ pub struct Filled {
 }
 
 // After a packet: the writer's numbers, how many records were read, the next place of the output, and of the report.
-#[derive(Drop)]
+#[derive(Clone, Copy)]
 struct Told {
     numbers: Numbers,
     count: u64,
