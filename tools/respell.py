@@ -149,7 +149,7 @@ def turn_pages(older, root):
         turned.update({a: b for a, b in zip(names, after[path]) if a != b})
     pages = [os.path.join(root, "README.md")]
     for folder, _, found in os.walk(os.path.join(root, "docs")):
-        pages += [os.path.join(folder, n) for n in found if n.endswith(".md") and n != "PORT.md"]
+        pages += [os.path.join(folder, n) for n in found if n.endswith(".md") and not n.startswith("PORT")]
     for path in sorted(pages):
         write(path, in_backticks(text_of(path), turned))
 
