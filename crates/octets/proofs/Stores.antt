@@ -6,7 +6,8 @@ use native.Mathlib.Nat.{add-zero, add-suc, suc-add}
 use native.Mathlib.Numerals.{add-one}
 use native.Mathlib.Omega.{arith}
 use lib.ListN.{length, get_or, take, drop, set, drop_of_length-le}
-use lib.Seq.{drop-cons, drop_at, length-take-le, take-set-le, drop-set-lt, sets, sets-eq}
+use borrow.Rule.Slice.PartMut.{put_mid}
+use lib.Seq.{drop-drop, drop-cons, drop_at, length-take-le, take-set-le, drop-set-lt, sets, sets-eq}
 
 -- the elements of vs stored at to + k, to + (k + 1), ..
 abbrev pub stores : List ℕ → ℕ → ℕ → List ℕ → List ℕ
@@ -64,3 +65,9 @@ copy_next xs l to i h = rw (add-one i, add-suc to i, drop-cons xs i 0 h)
 
 pub copy_done : (xs l : List ℕ) (k i : ℕ) → length xs ≤ i → sets l k (drop i xs) ≡ l
 copy_done xs l k i h = ap (sets l k) (drop_of_length-le xs h)
+
+-- ---- a part of a slice written as a whole, as code writes it
+
+pub put_mid-sets : (a k : ℕ) (xs ys vs : List ℕ) → ys ≡ vs → k ≡ length vs → a + length vs ≤ length xs → put_mid a k xs ys ≡ sets xs a vs
+put_mid-sets a k xs ys vs e h room =
+    rw (e, sets-eq vs xs a room, append_assoc, drop-drop k a xs, h) refl
