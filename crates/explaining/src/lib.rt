@@ -15,7 +15,7 @@ ghost use Rattle.desk.specs.Calls.{state, Ready};
 ghost use Rattle.lines.specs.Lines.{answer_lines};
 ghost use Rattle.explains.specs.Explaining.{chunk_explained, gathered_explained};
 ghost use Rattle.explain_lines.specs.Lines.{explained_line, chunk_lines};
-ghost use Rattle.explaining.specs.Explained.{explain_form, or_else, refused_by, under_segment, longest_text, explain_program, RecordSays, FillSays};
+ghost use Rattle.explaining.specs.Explained.{explain_form, refused_by, under_segment, longest_text, explain_program, RecordSays, FillSays};
 
 use explain_lines::LONGEST;
 use explains::Explained;
@@ -65,7 +65,7 @@ fn kind_in(seg: &[u8]) -> Kind
 }
 
 // The segment itself and the slot of its kind.
-fn explain_before(kind: Kind, notes: Notes, bytes: &[u8], seg: &[u8]) -> Explained
+fn explain_before(kind: Kind, notes: Notes, bytes: &[u8], seg: &[u8]) -> Option<Explained>
     requires { length bytes.now ≡ longest_chunk + longest_chunk }
     ensures { result ≡ gathered_explained (slot_for kind notes) (bytes_for kind (Desks·desk notes bytes.now)) seg.now }
 {
@@ -77,7 +77,7 @@ fn explain_before(kind: Kind, notes: Notes, bytes: &[u8], seg: &[u8]) -> Explain
 }
 
 // The chunk that the slot of a kind holds.
-fn explain_held(kind: Kind, notes: Notes, bytes: &[u8]) -> Explained
+fn explain_held(kind: Kind, notes: Notes, bytes: &[u8]) -> Option<Explained>
     requires { (length bytes.now ≡ longest_chunk + longest_chunk) × ((slot_for kind notes).last < most_segments) }
     ensures { result ≡ chunk_explained (chunk_in (side_of kind (Desks·desk notes bytes.now) [])) }
 {
@@ -89,37 +89,20 @@ fn explain_held(kind: Kind, notes: Notes, bytes: &[u8]) -> Explained
     }
 }
 
-// What was explained before, or else that chunk.
-fn or_held(before: Explained, kind: Kind, notes: Notes, bytes: &[u8]) -> Explained
-    requires { (length bytes.now ≡ longest_chunk + longest_chunk) × ((slot_for kind notes).last < most_segments) }
-    ensures { result ≡ or_else before (chunk_explained (chunk_in (side_of kind (Desks·desk notes bytes.now) []))) }
-{
-    match before {
-        Explained::Nothing => explain_held(kind, notes, bytes),
-        Explained::Found {
-            number: _,
-            field: _,
-            at: _,
-            value: _,
-        } => before,
-        Explained::Spoiled => before,
-    }
-}
-
-// Only a refusal is explained.
+// Only a refusal is explained: by what was explained before, or else by that chunk.
 fn explain_answer(
     answer: Result<Answer, Refusal>,
-    before: Explained,
+    before: Option<Explained>,
     kind: Kind,
     notes: Notes,
     bytes: &[u8],
-) -> Explained
+) -> Option<Explained>
     requires { (length bytes.now ≡ longest_chunk + longest_chunk) × ((slot_for kind notes).last < most_segments) }
     ensures { result ≡ refused_by answer before (chunk_explained (chunk_in (side_of kind (Desks·desk notes bytes.now) []))) }
 {
     match answer {
-        Ok(_) => Explained::Nothing,
-        Err(_) => or_held(before, kind, notes, bytes),
+        Ok(_) => None,
+        Err(_) => before.or_else(|| explain_held(kind, notes, bytes)),
     }
 }
 

@@ -4,6 +4,7 @@ use native.Mathlib.Omega.{arith}
 use Rattle.text.proofs.Laws.{put_both, put_same}
 use mathlib.Core.List.{◌++◌}
 use Rattle.segments.specs.Segment.{segment_kind}
+use Rattle.std.proofs.Common.{Option}
 use Rattle.lines.specs.Lines.{answer_lines}
 use Rattle.explains.specs.declared.Explained.{Explained}
 use Rattle.desk.specs.Desks.{desk, shown, segment_after}
@@ -36,4 +37,4 @@ returns-clause-put c =
     let s = c.segment-a in
     let explained = under_is d a.seg.now a.first.now a.second.now c.kind_in-kind.ensures s.ensures.bytes_after.0 s.ensures.answer_value c.explain_before-before.ensures c.explain_answer-explained.ensures in
     let front = answer_lines (segment_after d a.seg.now a.first.now a.second.now).answer (shown (segment_kind a.seg.now) (desk s.result.notes s.new.bytes) s.new.first s.new.second) in
-    put_same a.out.now a.to (ap (λ (e : Explained). front ++ explained_line e) explained) (put_both front (explained_line c.explain_answer-explained.result) a.out.now a.to s.ensures.put c.put_explained-end.ensures)
+    put_same a.out.now a.to (ap (λ (e : Option Explained). front ++ explained_line e) explained) (put_both front (explained_line c.explain_answer-explained.result) a.out.now a.to s.ensures.put c.put_explained-end.ensures)
