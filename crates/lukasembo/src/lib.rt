@@ -205,7 +205,7 @@ fn pack_wrapped(values: wrapper::Values, timestamp: u32) -> u64
 }
 
 // What a call gave, as the caller gets it.
-fn pack_given(answer: wrapper::Wrapped, numbers: wrapper::Numbers) -> Step
+fn pack_given(answer: Result<usize, wrapper::Refusal>, numbers: wrapper::Numbers) -> Step
     requires { ((wrapped_values answer).wrote < 65536) × (numbers.size < 65536) × (numbers.left < 65536) × (numbers.begin < 65536) }
     ensures { (result.answer ≡ packed_wrapped (wrapped_values answer) numbers.timestamp) × (result.numbers ≡ packed_writer numbers) }
 {

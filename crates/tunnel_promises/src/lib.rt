@@ -147,7 +147,7 @@ pub fn close(numbers: wrapper::Numbers, bytes: &[u8; 1400], out: &mut [u8]) -> w
     wrapper::close(numbers, bytes, out)
 }
 
-pub fn wrapped_values(answer: wrapper::Wrapped) -> wrapper::Values
+pub fn wrapped_values(answer: Result<usize, wrapper::Refusal>) -> wrapper::Values
     ensures { result ≡ wrapped_values answer }
 {
     wrapper::values_of(answer)
