@@ -25,8 +25,7 @@ use fields::Table;
 use guides::{Answer, Gathering};
 use meaning::{Listed, Refusal};
 use slots::Slot;
-use store::Next;
-use tunnel::{Numbers, Unwrapped};
+use tunnel::{Numbers, Refusal, Unwrapped};
 use writer::Written;
 
 // The reader's answer as one number.
@@ -89,10 +88,14 @@ pub struct Step {
 fn unpack_numbers(packed: u64) -> Numbers
     ensures { result ≡ numbers_in packed }
 {
+    let held = (packed % 0x10000) as usize;
+    if packed / 0x100000000 == 0 {
+        return Numbers { last: None, held };
+    }
+    let last = (packed / 0x10000 % 0x10000) as u16;
     Numbers {
-        begun: packed / 0x100000000 != 0,
-        last: (packed / 0x10000 % 0x10000) as u16,
-        held: (packed % 0x10000) as usize,
+        last: Some(last),
+        held,
     }
 }
 
@@ -100,47 +103,40 @@ fn pack_numbers(numbers: Numbers) -> u64
     requires { numbers.held < 65536 }
     ensures { result ≡ packed_numbers numbers }
 {
-    let low = numbers.held as u64 + numbers.last as u64 * 0x10000;
-    if numbers.begun {
-        return low + 0x100000000;
+    match numbers.last {
+        Some(last) => numbers.held as u64 + last as u64 * 0x10000 + 0x100000000,
+        None => numbers.held as u64,
     }
-    low
 }
 
 // What the caller keeps after an answer: where nothing changes, what was given.
-fn left_numbers(answer: Unwrapped, before: u64, after: Numbers) -> u64
+fn left_numbers(answer: Result<Unwrapped, Refusal>, before: u64, after: Numbers) -> u64
     requires { after.held < 65536 }
     ensures { result ≡ numbers_left answer before after }
 {
     match answer {
-        Unwrapped::Stored {
-            stored: _,
-            gap: _,
-            lost: _,
-        } => pack_numbers(after),
-        Unwrapped::Repeat => before,
-        Unwrapped::ShortOutput => before,
-        Unwrapped::Foreign => before,
-        Unwrapped::BadOffset { gap: _, lost: _ } => pack_numbers(after),
+        Ok(
+            Unwrapped::Stored {
+                stored: _,
+                gap: _,
+                lost: _,
+            },
+        ) => pack_numbers(after),
+        Ok(Unwrapped::Repeat) => before,
+        Err(Refusal::ShortOutput) => before,
+        Err(Refusal::Foreign) => before,
+        Err(Refusal::BadOffset { gap: _, lost: _ }) => pack_numbers(after),
     }
 }
 
 // The tunnel's answer as one number.
-fn pack_unwrapped(answer: Unwrapped) -> u64
+fn pack_unwrapped(answer: Result<Unwrapped, Refusal>) -> u64
     requires { ((unwrapped_values answer).stored < 65536) × ((unwrapped_values answer).lost < 65536) }
     ensures { result ≡ packed_unwrapped answer }
 {
-    match answer {
-        Unwrapped::Stored { stored, gap, lost } => {
-            gap as u64 * 0x10000 + stored as u64 * 0x100000000 + lost as u64 * 0x1000000000000
-        }
-        Unwrapped::Repeat => 0x100,
-        Unwrapped::ShortOutput => 1,
-        Unwrapped::Foreign => 16,
-        Unwrapped::BadOffset { gap, lost } => {
-            17 + gap as u64 * 0x10000 + lost as u64 * 0x1000000000000
-        }
-    }
+    let v = tunnel::values_of(answer);
+    let low = v.number as u64 + v.repeat as u64 * 0x100 + v.gap as u64 * 0x10000;
+    low + v.stored as u64 * 0x100000000 + v.lost as u64 * 0x1000000000000
 }
 
 // Reads an outer packet: the inner packets that it finishes go to the start of the output.
@@ -167,9 +163,9 @@ pub fn lukasembo_next_packet(store: &[u8], at: usize) -> u64
     ensures { result ≡ packed_next (next_in (drop at store.now)) }
 {
     match store::next_at(store, at) {
-        Next::End => 0,
-        Next::Packet(n) => n as u64 * 0x10000,
-        Next::Broken => 15,
+        Ok(Some(n)) => n as u64 * 0x10000,
+        Ok(None) => 0,
+        Err(broken) => u8::from(broken) as u64,
     }
 }
 
