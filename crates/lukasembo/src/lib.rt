@@ -27,7 +27,7 @@ use meaning::Read;
 use slots::Slot;
 use store::Next;
 use tunnel::{Numbers, Unwrapped};
-use writer::Written;
+use writer::Unwritten;
 
 // The reader's answer as one number.
 fn pack_read(answer: Read) -> u64
@@ -52,13 +52,13 @@ fn pack_read(answer: Read) -> u64
 }
 
 // The writer's answer as one number.
-fn pack_written(answer: Written) -> u64
+fn pack_written(answer: Result<usize, Unwritten>) -> u64
     requires { (written_values answer).count ≤ most_segments }
     ensures { result ≡ packed_written answer }
 {
     match answer {
-        Written::Segments(count) => count as u64 * 0x10000,
-        Written::Refused(refusal) => writer::unwritten_number(refusal) as u64,
+        Ok(count) => count as u64 * 0x10000,
+        Err(refusal) => u8::from(refusal) as u64,
     }
 }
 
