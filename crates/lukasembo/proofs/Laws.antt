@@ -27,8 +27,7 @@ use Rattle.meaning.proofs.Said.{said_fitting}
 use Rattle.segments.specs.Segment.{most_segments}
 use Rattle.writer.specs.declared.Unwritten.{Unwritten}
 use Rattle.writer.specs.declared.Unwritten.TheVariants.{ShortOutput, BadListing, TooMany}
-use Rattle.writer.specs.declared.Written.{Written}
-use Rattle.writer.specs.declared.Written.TheVariants.{Segments, Refused}
+use Rattle.std.proofs.Common.{Result, Ok, Err}
 use Rattle.writer.specs.Writing.{unwritten_number, written_values, write_answer}
 use Rattle.writer.proofs.Answers.{segments_says}
 use Rattle.writer.proofs.Outputs.{length-plain_segments}
@@ -92,18 +91,18 @@ module _ (xs : List ℕ) (k : Kind) (output : List ℕ) where
   pub segments_few : Bytes xs → (written_values (write_answer xs k output)).count ≤ most_segments
   segments_few bytes = go (write_answer xs k output) refl
     where
-      go : (a : Written) → a ≡ write_answer xs k output → (written_values a).count ≤ most_segments
-      go (Segments n) e =
+      go : (a : Result ℕ Unwritten) → a ≡ write_answer xs k output → (written_values a).count ≤ most_segments
+      go (Ok n) e =
           let s = segments_says xs k output (record { answers = e; leaves = refl }) in
           omega (arith, s, length-plain_segments k (list_said xs) (said_fitting xs bytes s.0))
-      go (Refused f) e = lit≤ tt
+      go (Err f) e = lit≤ tt
 
   pub write_parts : let a = write_answer xs k output in let r = packed_written a in (r % 0x100 ≡ (written_values a).number) × (r / 0x10000 ≡ (written_values a).count)
   write_parts = omega (arith, small (write_answer xs k output))
     where
-      small : (a : Written) → (written_values a).number < 0x100
-      small (Segments n) = lit< tt
-      small (Refused f) = unwritten_small f
+      small : (a : Result ℕ Unwritten) → (written_values a).number < 0x100
+      small (Ok n) = lit< tt
+      small (Err f) = unwritten_small f
 
 -- ---- the tunnel
 

@@ -25,8 +25,8 @@ use fields::Table;
 use guides::{Answer, Gathering};
 use meaning::{Listed, Refusal};
 use slots::Slot;
-use tunnel::{Numbers, Refusal, Unwrapped};
-use writer::Written;
+use tunnel::{Numbers, Unwrapped};
+use writer::Unwritten;
 
 // The reader's answer as one number.
 fn pack_read(answer: Result<Listed, Refusal>) -> u64
@@ -47,13 +47,13 @@ fn pack_read(answer: Result<Listed, Refusal>) -> u64
 }
 
 // The writer's answer as one number.
-fn pack_written(answer: Written) -> u64
+fn pack_written(answer: Result<usize, Unwritten>) -> u64
     requires { (written_values answer).count ≤ most_segments }
     ensures { result ≡ packed_written answer }
 {
     match answer {
-        Written::Segments(count) => count as u64 * 0x10000,
-        Written::Refused(refusal) => writer::unwritten_number(refusal) as u64,
+        Ok(count) => count as u64 * 0x10000,
+        Err(refusal) => u8::from(refusal) as u64,
     }
 }
 
@@ -110,7 +110,7 @@ fn pack_numbers(numbers: Numbers) -> u64
 }
 
 // What the caller keeps after an answer: where nothing changes, what was given.
-fn left_numbers(answer: Result<Unwrapped, Refusal>, before: u64, after: Numbers) -> u64
+fn left_numbers(answer: Result<Unwrapped, tunnel::Refusal>, before: u64, after: Numbers) -> u64
     requires { after.held < 65536 }
     ensures { result ≡ numbers_left answer before after }
 {
@@ -123,14 +123,14 @@ fn left_numbers(answer: Result<Unwrapped, Refusal>, before: u64, after: Numbers)
             },
         ) => pack_numbers(after),
         Ok(Unwrapped::Repeat) => before,
-        Err(Refusal::ShortOutput) => before,
-        Err(Refusal::Foreign) => before,
-        Err(Refusal::BadOffset { gap: _, lost: _ }) => pack_numbers(after),
+        Err(tunnel::Refusal::ShortOutput) => before,
+        Err(tunnel::Refusal::Foreign) => before,
+        Err(tunnel::Refusal::BadOffset { gap: _, lost: _ }) => pack_numbers(after),
     }
 }
 
 // The tunnel's answer as one number.
-fn pack_unwrapped(answer: Result<Unwrapped, Refusal>) -> u64
+fn pack_unwrapped(answer: Result<Unwrapped, tunnel::Refusal>) -> u64
     requires { ((unwrapped_values answer).stored < 65536) × ((unwrapped_values answer).lost < 65536) }
     ensures { result ≡ packed_unwrapped answer }
 {
