@@ -1,5 +1,7 @@
 -- `replay::segment` meets its contract: the desk driven, and the lines of its answer. Assumes nothing.
-use mathlib.Core.Path.{sym, ◌∙◌}
+use mathlib.Core.Path.{sym, ap, ◌∙◌}
+use Rattle.std.proofs.Common.{Ok}
+use Rattle.slots.specs.declared.Answer.{Answer}
 use Rattle.desk.specs.Desks.{desk}
 use Rattle.text.proofs.Laws.{put_same}
 use Rattle.lines.proofs.Laws.{missing_lines, refused_lines}
@@ -9,26 +11,26 @@ use Rattle.replay.proofs.segment.Goals as goal
 pub part-listing-requires : goal.part-listing-requires
 part-listing-requires c =
     let a = c.args in
-    listed_room (desk a.notes a.bytes.now) a.seg.now a.first.now a.second.now _ c.drive-driven.ensures _ _ c.in-NewList.is
+    listed_room (desk a.notes a.bytes.now) a.seg.now a.first.now a.second.now _ c.drive-driven.ensures _ _ (c.in-Ok-NewList.is ∙ ap (λ (x : Answer). Ok x) (rw c.in-Ok-NewList.is at c.in-Ok-NewList.field-0-is))
 
 pub put_list-end-requires : goal.put_list-end-requires
 put_list-end-requires c =
     let a = c.args in
-    (listed_small (desk a.notes a.bytes.now) a.seg.now a.first.now a.second.now _ c.drive-driven.ensures _ _ c.in-NewList.is _ c.part-listing.ensures.result_value, c.requires.longest_lines_in_bounds)
+    (listed_small (desk a.notes a.bytes.now) a.seg.now a.first.now a.second.now _ c.drive-driven.ensures _ _ (c.in-Ok-NewList.is ∙ ap (λ (x : Answer). Ok x) (rw c.in-Ok-NewList.is at c.in-Ok-NewList.field-0-is)) _ c.part-listing.ensures.result_value, c.requires.longest_lines_in_bounds)
 
-pub returns-in-NewList-clause-put : goal.returns-in-NewList-clause-put
-returns-in-NewList-clause-put c =
+pub returns-in-Ok-NewList-clause-put : goal.returns-in-Ok-NewList-clause-put
+returns-in-Ok-NewList-clause-put c =
     let a = c.args in
-    put_same a.out.now a.to (listed_same (desk a.notes a.bytes.now) a.seg.now a.first.now a.second.now _ c.drive-driven.ensures _ _ c.in-NewList.is _ c.part-listing.ensures.result_value) c.put_list-end.ensures
+    put_same a.out.now a.to (listed_same (desk a.notes a.bytes.now) a.seg.now a.first.now a.second.now _ c.drive-driven.ensures _ _ (c.in-Ok-NewList.is ∙ ap (λ (x : Answer). Ok x) (rw c.in-Ok-NewList.is at c.in-Ok-NewList.field-0-is)) _ c.part-listing.ensures.result_value) c.put_list-end.ensures
 
-pub returns-in-Missing-clause-put : goal.returns-in-Missing-clause-put
-returns-in-Missing-clause-put c =
-    let a = c.args in
-    let is = answer_is (desk a.notes a.bytes.now) a.seg.now a.first.now a.second.now _ c.drive-driven.ensures in
-    put_same a.out.now a.to (missing_lines _ _ _ (sym is ∙ c.in-Missing.is)) c.put_missing-end.ensures
-
-pub returns-in-Refused-clause-put : goal.returns-in-Refused-clause-put
-returns-in-Refused-clause-put c =
+pub returns-in-Ok-Missing-clause-put : goal.returns-in-Ok-Missing-clause-put
+returns-in-Ok-Missing-clause-put c =
     let a = c.args in
     let is = answer_is (desk a.notes a.bytes.now) a.seg.now a.first.now a.second.now _ c.drive-driven.ensures in
-    put_same a.out.now a.to (refused_lines _ _ _ (sym is ∙ c.in-Refused.is)) c.put_refused-end.ensures
+    put_same a.out.now a.to (missing_lines _ _ _ (sym is ∙ c.in-Ok-Missing.is ∙ ap (λ (x : Answer). Ok x) (rw c.in-Ok-Missing.is at c.in-Ok-Missing.field-0-is))) c.put_missing-end.ensures
+
+pub returns-in-Err-clause-put : goal.returns-in-Err-clause-put
+returns-in-Err-clause-put c =
+    let a = c.args in
+    let is = answer_is (desk a.notes a.bytes.now) a.seg.now a.first.now a.second.now _ c.drive-driven.ensures in
+    put_same a.out.now a.to (refused_lines _ _ _ (sym is ∙ c.in-Err.is)) c.put_refused-end.ensures
