@@ -167,7 +167,7 @@ fn complete(kind: Kind, slot: Slot, bytes: &[u8], out: &mut [u8]) -> Result<Answ
     let end = PAYLOAD_BYTES * (slot.last as usize + 1);
     let chunk = &bytes[..end];
     chunk_checks::check_chunk(chunk)?;
-    if chunk[1] % 2 != meaning::current_of(kind) {
+    if chunk[1] % 2 != u8::from(kind) {
         return Err(Refusal::KindDiffers);
     }
     let length = listing_puts::write_listing(chunk, out);
