@@ -15,9 +15,9 @@ use Rattle.records.specs.declared.Form.{Form}
 use Rattle.records.specs.declared.Form.TheVariants.{Foreign, Fixed, Counted}
 use Rattle.records.specs.declared.Entry.{Entry}
 use Rattle.records.specs.declared.Entry.TheVariants.{End, Whole, Unknown, Cut}
-use Rattle.records.specs.Records.{mark_bytes, length_bytes, mark_of, mark_in, entry_in, is_whole, size_of, Record, record_in, body_in}
+use Rattle.records.specs.Records.{mark_bytes, length_bytes, mark_of, mark_in, entry_in, is_whole, size_of, Record, record_in, body_in, form_bytes}
 use Rattle.records.specs.Transcripts.{text_in, filled}
-use Rattle.records.proofs.Entries.{allowed, size_by, form_bytes, count_within, Within}
+use Rattle.records.proofs.Entries.{allowed, size_by, count_within, Within}
 use Rattle.records.proofs.Counted.{whole_told}
 use Rattle.records.proofs.Transcripts.{filled_cases, cost-text}
 use Rattle.meaning.specs.declared.Kind.{Kind}
