@@ -5,9 +5,9 @@ use Prim.Native.Nat.{ℕ, zero, suc, ◌+◌, ◌-◌, ◌*◌, ◌%◌, ◌≤�
 use native.Mathlib.Omega.{arith}
 use lib.ListN.{length, get_or, drop, length-drop}
 use lib.Seq.{get_or-drop, drop-drop}
+use Rattle.std.proofs.Common.{Ok, Err}
 use Rattle.meaning.specs.declared.Part.TheVariants.{EnsembleFields, SingleService}
 use Rattle.meaning.specs.declared.Refusal.TheVariants.{EndsEarly}
-use Rattle.meaning.specs.declared.Checked.TheVariants.{Fine, Fault}
 use Rattle.meaning.specs.Sizes.{ensemble_bytes, service_bytes}
 use Rattle.meaning.specs.Reading.{ensembles_checks, version_in, services_in, services_room, whole_services, inside}
 use Rattle.meaning.proofs.Checks.{EnsemblePasses, ensemble-short, ensemble_crowded, ensemble_next}
@@ -32,12 +32,12 @@ module _ (xs : List ℕ) (at e s : ℕ) where
   pub inside_at : inside e (drop at xs) ≡ drop (at + (ensemble_bytes + e)) xs
   inside_at = drop-drop (ensemble_bytes + e) at xs
 
-  pub none_there : (n : ℕ) → n ≤ 0 → ensembles_checks e s n at (drop at xs) ≡ Fine
+  pub none_there : (n : ℕ) → n ≤ 0 → ensembles_checks e s n at (drop at xs) ≡ Ok tt
   unfolding ensembles_checks
   none_there zero z = refl
   none_there (suc n) z = absurd (omega arith)
 
-  pub short_there : (n : ℕ) → 0 < n → length xs - at < ensemble_bytes + e → ensembles_checks e s n at (drop at xs) ≡ Fault (EndsEarly EnsembleFields at)
+  pub short_there : (n : ℕ) → 0 < n → length xs - at < ensemble_bytes + e → ensembles_checks e s n at (drop at xs) ≡ Err (EndsEarly EnsembleFields at)
   short_there zero z h = absurd (omega arith)
   short_there (suc n) z h = ensemble-short e s n at (drop at xs) (omega (arith, length-drop at xs))
 
@@ -55,11 +55,11 @@ module _ (xs : List ℕ) (at e s : ℕ) where
     fields_there : ensemble_bytes + e ≤ length (drop at xs)
     fields_there = omega (arith, length-drop at xs)
 
-    pub crowded_there : length xs - start < taken → ensembles_checks e s n at (drop at xs) ≡ Fault (EndsEarly SingleService (start + whole_services s (length xs - start)))
+    pub crowded_there : length xs - start < taken → ensembles_checks e s n at (drop at xs) ≡ Err (EndsEarly SingleService (start + whole_services s (length xs - start)))
     crowded_there r =
-        subst (λ (k : ℕ). ensembles_checks e s k at (drop at xs) ≡ Fault (EndsEarly SingleService (start + whole_services s (length xs - start)))) (one_less n z)
+        subst (λ (k : ℕ). ensembles_checks e s k at (drop at xs) ≡ Err (EndsEarly SingleService (start + whole_services s (length xs - start)))) (one_less n z)
         (ensemble_crowded e s (n - 1) at (drop at xs) fields_there (omega (arith, left_there, room_at))
-        ∙ ap (λ (k : ℕ). Fault (EndsEarly SingleService (start + whole_services s k))) left_there)
+        ∙ ap (λ (k : ℕ). Err (EndsEarly SingleService (start + whole_services s k))) left_there)
 
     pub next_there : taken ≤ length xs - start → ensembles_checks e s n at (drop at xs) ≡ ensembles_checks e s (n - 1) (start + taken) (drop (start + taken) xs)
     next_there r =

@@ -6,6 +6,7 @@ use Prim.Native.Nat.{ℕ, ◌+◌, ◌-◌, ◌*◌, ◌^◌, ◌≤◌, ◌<◌
 use native.Mathlib.Omega.{arith}
 use lib.Dec.{eqb}
 use lib.ListN.{length, drop, length-append, length-take, length-drop}
+use Rattle.std.proofs.Common.{Result, Ok, Err}
 use Rattle.octets.specs.Tables.{before, first_not_whole}
 use Rattle.octets.proofs.Laws.{either, cond_both}
 use Rattle.octets.proofs.Tables.{not_whole_before, number_small}
@@ -23,8 +24,6 @@ use Rattle.records.proofs.Transcripts.{filled_cases, cost-text}
 use Rattle.meaning.specs.declared.Kind.{Kind}
 use Rattle.meaning.specs.declared.Refusal.{Refusal}
 use Rattle.meaning.specs.declared.Refusal.TheVariants.{ShortBuffer, SegmentLength, SegmentType, ErrorBit, OtherMajor, NumberAboveLast, Clash, TooLong, EndsEarly, KindDiffers, BadDesk}
-use Rattle.meaning.specs.declared.Checked.{Checked}
-use Rattle.meaning.specs.declared.Checked.TheVariants.{Fine, Fault}
 use Rattle.meaning.specs.Sizes.{longest_chunk}
 use Rattle.meaning.specs.Numbers.{checked_number}
 use Rattle.meaning.specs.Reading.{checks}
@@ -32,7 +31,7 @@ use Rattle.meaning.proofs.Ends.{told_small}
 use Rattle.segments.specs.Segment.{segment_header_bytes, payload_bytes, segment_kind, place_of, number_in, last_in, payload_in, segment_checks}
 use Rattle.slots.specs.declared.Slot.{Slot}
 use Rattle.slots.specs.declared.Answer.{Answer}
-use Rattle.slots.specs.declared.Answer.TheVariants.{Missing, NewList, Refused}
+use Rattle.slots.specs.declared.Answer.TheVariants.{Missing, NewList}
 use Rattle.slots.specs.Slots.{clashing}
 use Rattle.slots.specs.Gathering.{chunk_in}
 use Rattle.notes.specs.Notes.{slot_for}
@@ -83,7 +82,7 @@ abbrev Short : List ℕ → Type 0
 Short xs = length xs ≤ longest_record
 
 module _ (xs : List ℕ) (short : Short xs) where
-  fault_small : (f : Refusal) → checks xs ≡ Fault f → Small (chunk_fault f xs)
+  fault_small : (f : Refusal) → checks xs ≡ Err f → Small (chunk_fault f xs)
   unfolding before
   fault_small TooLong e = (omega arith, omega arith)
   fault_small (EndsEarly part at) e =
@@ -104,9 +103,9 @@ module _ (xs : List ℕ) (short : Short xs) where
   unfolding chunk_explained
   chunk_small = go (checks xs) refl
     where
-      go : (v : Checked) → checks xs ≡ v → Small (chunk_by v xs)
-      go Fine e = tt
-      go (Fault f) e = fault_small f e
+      go : (v : Result Unit Refusal) → checks xs ≡ v → Small (chunk_by v xs)
+      go (Ok _) e = tt
+      go (Err f) e = fault_small f e
 
   chunk-fits : length (chunk_lines xs) ≤ longest_text
   chunk-fits =
@@ -146,12 +145,12 @@ module _ (xs : List ℕ) (short : Short xs) where
 
 -- ---- under the line of a segment
 
-refused_small : (a : Answer) (own held : Explained) → Small own → Small held → Small (refused_by a own held)
-refused_small (Missing n) own held o h = tt
-refused_small (NewList k n) own held o h = tt
-refused_small (Refused f) Nothing held o h = h
-refused_small (Refused f) (Found n field at value) held o h = o
-refused_small (Refused f) Spoiled held o h = tt
+refused_small : (a : Result Answer Refusal) (own held : Explained) → Small own → Small held → Small (refused_by a own held)
+refused_small (Ok (Missing n)) own held o h = tt
+refused_small (Ok (NewList k n)) own held o h = tt
+refused_small (Err f) Nothing held o h = h
+refused_small (Err f) (Found n field at value) held o h = o
+refused_small (Err f) Spoiled held o h = tt
 
 module _ (s : State) (y : Ready s) where
   under_small : (xs : List ℕ) → Short xs → Small (under_segment s xs)

@@ -19,7 +19,7 @@ ghost use Rattle.explaining.specs.Explained.{explain_form, or_else, refused_by, 
 
 use explain_lines::LONGEST;
 use explains::Explained;
-use meaning::{Kind, LONGEST_CHUNK};
+use meaning::{Kind, LONGEST_CHUNK, Refusal};
 use notes::Notes;
 use records::{Entry, Form, LENGTH_BYTES, MARK_BYTES};
 use replay::{FRAME_MARK, Filled, GATHERING_MARK, Turned};
@@ -108,7 +108,7 @@ fn or_held(before: Explained, kind: Kind, notes: Notes, bytes: &[u8]) -> Explain
 
 // Only a refusal is explained.
 fn explain_answer(
-    answer: Answer,
+    answer: Result<Answer, Refusal>,
     before: Explained,
     kind: Kind,
     notes: Notes,
@@ -118,9 +118,8 @@ fn explain_answer(
     ensures { result ≡ refused_by answer before (chunk_explained (chunk_in (side_of kind (Desks·desk notes bytes.now) []))) }
 {
     match answer {
-        Answer::Missing(_) => Explained::Nothing,
-        Answer::NewList { kind: _, length: _ } => Explained::Nothing,
-        Answer::Refused(_) => or_held(before, kind, notes, bytes),
+        Ok(_) => Explained::Nothing,
+        Err(_) => or_held(before, kind, notes, bytes),
     }
 }
 

@@ -9,6 +9,7 @@ use borrow.Author.Tests.{eqb-true, eqb-false, eq-eqb, not-true}
 use lib.Dec.{eqb}
 use lib.ListN.{length, get_or, length-drop}
 use lib.Seq.{get_or-drop}
+use Rattle.std.proofs.Common.{Result, Ok, Err}
 use Rattle.octets.specs.Bits.{Bytes}
 use Rattle.octets.specs.Same.{same}
 use Rattle.octets.specs.Sets.{holds}
@@ -16,9 +17,8 @@ use Rattle.octets.specs.Checks.{check}
 use Rattle.octets.specs.Tables.{number_at}
 use Rattle.octets.proofs.Laws.{either, get_d_byte}
 use Rattle.octets.proofs.Tables.{number_in-byte}
+use Rattle.meaning.specs.declared.Refusal.{Refusal}
 use Rattle.meaning.specs.declared.Refusal.TheVariants.{Clash}
-use Rattle.meaning.specs.declared.Checked.{Checked}
-use Rattle.meaning.specs.declared.Checked.TheVariants.{Fine, Fault}
 use Rattle.meaning.specs.Checks.{and_then}
 use Rattle.meaning.specs.Numbers.{checked_number}
 use Rattle.segments.specs.Segment.{segment_header_bytes, payload_bytes, place_of, number_in, last_in, payload_in, segment_checks}
@@ -37,7 +37,7 @@ use Rattle.explains.proofs.Exactly.{gathered-number}
 use Rattle.explains.proofs.Segments.{passes, last_value}
 
 pub clash-passes_before : (s : Slot) (bytes xs : List ℕ) → PassesBefore (explained_values (gathered_explained s bytes xs)).number xs
-clash-passes_before s bytes xs = rw (gathered-number s bytes xs) (passes xs (check (clashing s bytes xs) (Fault Clash) Fine))
+clash-passes_before s bytes xs = rw (gathered-number s bytes xs) (passes xs (check (clashing s bytes xs) (Err Clash) (Ok tt)))
 
 -- ---- the first byte that differs
 
@@ -75,15 +75,15 @@ module _ (s : Slot) (bytes xs : List ℕ) where
       (λ r. last q (eqb-false _ _ r) (simp (q, r) at is)))
 
   -- it is explained where the checks on the segment itself pass
-  clash_told : {e : Explained} → gathered_explained s bytes xs ≡ e → (explained_values e).number ≡ 7 → (segment_checks xs ≡ Fine) × (clashing s bytes xs ≡ true) × (clash_fault s bytes xs ≡ e)
+  clash_told : {e : Explained} → gathered_explained s bytes xs ≡ e → (explained_values e).number ≡ 7 → (segment_checks xs ≡ Ok tt) × (clashing s bytes xs ≡ true) × (clash_fault s bytes xs ≡ e)
   unfolding gathered_explained
   clash_told is seven =
       let both = go (segment_checks xs) refl (sym (gathered-number s bytes xs) ∙ ap (λ (e : Explained). (explained_values e).number) is ∙ seven) in
       (both.0, both.1, simp (both.0, both.1) at is)
     where
-      go : (v : Checked) → segment_checks xs ≡ v → checked_number (and_then v (check (clashing s bytes xs) (Fault Clash) Fine)) ≡ 7 → (segment_checks xs ≡ Fine) × (clashing s bytes xs ≡ true)
-      go Fine is n = (is, either (clashing s bytes xs) (λ q. q) (λ q. let z : 0 ≡ 7 = simp q at n in absurd (omega arith)))
-      go (Fault f) is n = absurd (rw (ap checked_number is ∙ n) at (check-numbers xs))
+      go : (v : Result Unit Refusal) → segment_checks xs ≡ v → checked_number (and_then v (check (clashing s bytes xs) (Err Clash) (Ok tt))) ≡ 7 → (segment_checks xs ≡ Ok tt) × (clashing s bytes xs ≡ true)
+      go (Ok _) is n = (is, either (clashing s bytes xs) (λ q. q) (λ q. let z : 0 ≡ 7 = simp q at n in absurd (omega arith)))
+      go (Err f) is n = absurd (rw (ap checked_number is ∙ n) at (check-numbers xs))
 
   -- the place is held, with other payload
   held_otherwise : clashing s bytes xs ≡ true → s.spoiled ≡ false → s.last ≡ last_in xs → (holds s.held (number_in xs) ≡ true) × (same held (payload_in xs) ≡ false)

@@ -8,12 +8,12 @@ use borrow.Author.Tests.{ltb-false, eqb-true, eq-eqb, ne_eqb}
 use lib.Dec.{ltb, eqb}
 use lib.ListN.{length, get_or, drop, length-drop, length-take, drop_of_length-le}
 use lib.Seq.{drop-cons, take_all}
+use Rattle.std.proofs.Common.{Err}
 use Rattle.octets.specs.Same.{same}
 use Rattle.octets.specs.Sets.{holds}
 use Rattle.octets.proofs.Laws.{either, check_follows, same_eq, same_refl}
 use Rattle.meaning.specs.declared.Refusal.{Refusal}
 use Rattle.meaning.specs.declared.Refusal.TheVariants.{OtherMajor, TooLong}
-use Rattle.meaning.specs.declared.Checked.TheVariants.{Fault}
 use Rattle.meaning.specs.Numbers.{number_of, checked_number}
 use Rattle.meaning.specs.Reading.{checks}
 use Rattle.meaning.specs.Sizes.{longest_chunk}
@@ -28,16 +28,16 @@ use Rattle.explains.specs.Explaining.{segment_fault, segment_by, first_differing
 -- ---- a refused chunk
 
 -- by another number than 8 it is not too long
-pub not_too_long : (xs : List ℕ) {f : Refusal} → (number_of f ≡ 8 → ⊥) → checks xs ≡ Fault f → length xs ≤ longest_chunk
+pub not_too_long : (xs : List ℕ) {f : Refusal} → (number_of f ≡ 8 → ⊥) → checks xs ≡ Err f → length xs ≤ longest_chunk
 unfolding checks
 not_too_long xs other e =
-    ltb-false longest_chunk (length xs) (check_follows (ltb longest_chunk (length xs)) {answer = Fault TooLong} (λ same. other (sym (ap checked_number same))) e).0
+    ltb-false longest_chunk (length xs) (check_follows (ltb longest_chunk (length xs)) {answer = Err TooLong} (λ same. other (sym (ap checked_number same))) e).0
 
 -- by its major version it has two bytes
-pub major_whole : (xs : List ℕ) → checks xs ≡ Fault OtherMajor → 2 ≤ length xs
+pub major_whole : (xs : List ℕ) → checks xs ≡ Err OtherMajor → 2 ≤ length xs
 unfolding checks
 major_whole xs e =
-    let p = check_follows (ltb longest_chunk (length xs)) {answer = Fault TooLong} (λ same. omega (arith, ap checked_number same)) e in
+    let p = check_follows (ltb longest_chunk (length xs)) {answer = Err TooLong} (λ same. omega (arith, ap checked_number same)) e in
     ltb-false (length xs) 2 (check_follows (ltb (length xs) 2) (λ same. omega (arith, ap checked_number same)) p.1).0
 
 -- ---- a segment that is not refused with 2

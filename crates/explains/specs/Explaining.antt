@@ -1,13 +1,11 @@
 -- Document 02, 8/14: the field at fault in a refused chunk or segment, its bit offset, and the value found.
-use Rattle.std.specs.Prelude.{ℕ, suc, ◌+◌, ◌-◌, ◌*◌, cond, not, List, [], ◌∷◌, eqb, length}
+use Rattle.std.specs.Prelude.{ℕ, suc, ◌+◌, ◌-◌, ◌*◌, cond, not, List, [], ◌∷◌, eqb, length, Result, Ok, Err}
 use Rattle.octets.specs.Checks.{check}
 use Rattle.octets.specs.Tables.{number_at}
 use Rattle.meaning.specs.declared.Part.{Part}
 use Rattle.meaning.specs.declared.Part.TheVariants.{Header, EnsembleFields, SingleService}
 use Rattle.meaning.specs.declared.Refusal.{Refusal}
 use Rattle.meaning.specs.declared.Refusal.TheVariants.{ShortBuffer, SegmentLength, SegmentType, ErrorBit, OtherMajor, NumberAboveLast, Clash, TooLong, EndsEarly, KindDiffers, BadDesk}
-use Rattle.meaning.specs.declared.Checked.{Checked}
-use Rattle.meaning.specs.declared.Checked.TheVariants.{Fine, Fault}
 use Rattle.meaning.specs.Numbers.{checked_number}
 use Rattle.meaning.specs.Reading.{h_in, e_in, s_in, checks}
 use Rattle.segments.specs.Segment.{segment_header_bytes, place_of, number_in, last_in, payload_in, segment_checks}
@@ -80,9 +78,9 @@ chunk_fault Clash xs = Nothing
 chunk_fault KindDiffers xs = Nothing
 chunk_fault BadDesk xs = Nothing
 
-abbrev pub chunk_by : Checked → List ℕ → Explained
-chunk_by Fine xs = Nothing
-chunk_by (Fault f) xs = chunk_fault f xs
+abbrev pub chunk_by : Result Unit Refusal → List ℕ → Explained
+chunk_by (Ok _) xs = Nothing
+chunk_by (Err f) xs = chunk_fault f xs
 
 unfoldable pub chunk_explained : List ℕ → Explained
 chunk_explained xs = chunk_by (checks xs) xs

@@ -1,7 +1,7 @@
 // Why a chunk or a segment is refused: the field at fault, its offset in bits, and the value found there.
 #![tactic(auto)]
 
-ghost use Rattle.std.specs.Prelude.{◌≡◌, ◌+◌, ◌*◌, ◌≤◌, ◌<◌, length, get_or, take, drop};
+ghost use Rattle.std.specs.Prelude.{◌≡◌, ◌+◌, ◌*◌, ◌≤◌, ◌<◌, length, get_or, take, drop, Err};
 ghost use Rattle.meaning.specs.Sizes.{longest_chunk};
 ghost use Rattle.meaning.specs.Numbers.{checked_number};
 ghost use Rattle.meaning.specs.Reading.{checks};
@@ -9,7 +9,7 @@ ghost use Rattle.segments.specs.Segment.{segment_bytes, payload_bytes, payload_i
 ghost use Rattle.explains.specs.Explaining.{length_fault, cut_fault, chunk_fault, chunk_explained, segment_row, segment_fault, segment_explained, first_differing, payload_fault, clash_explained, gathered_explained};
 
 use fields::{Place, Table};
-use meaning::{Checked, Part, Refusal};
+use meaning::{Part, Refusal};
 use segments::{PAYLOAD_BYTES, SEGMENT_HEADER_BYTES};
 use slots::Slot;
 
@@ -117,7 +117,7 @@ fn cut_at(table: Table, place: Place, at: u16, chunk: &[u8]) -> Explained
 
 // What is at fault in a chunk that the reader's checks refuse so.
 fn chunk_fault(refusal: Refusal, chunk: &[u8]) -> Explained
-    requires { checks chunk.now ≡ Checked.Fault refusal }
+    requires { checks chunk.now ≡ Err refusal }
     ensures { result ≡ chunk_fault refusal chunk.now }
 {
     match refusal {
@@ -140,8 +140,8 @@ pub fn explain_chunk(chunk: &[u8]) -> Explained
     ensures { result ≡ chunk_explained chunk.now }
 {
     match chunk_checks::check_chunk(chunk) {
-        Checked::Fine => Explained::Nothing,
-        Checked::Fault(refusal) => chunk_fault(refusal, chunk),
+        Ok(_) => Explained::Nothing,
+        Err(refusal) => chunk_fault(refusal, chunk),
     }
 }
 
@@ -152,8 +152,8 @@ fn number_for(seg: &[u8]) -> u8
     ensures { result ≡ checked_number (segment_checks seg.now) }
 {
     match segments::check_segment(seg) {
-        Checked::Fine => 0,
-        Checked::Fault(refusal) => meaning::number_of(refusal),
+        Ok(_) => 0,
+        Err(refusal) => meaning::number_of(refusal),
     }
 }
 

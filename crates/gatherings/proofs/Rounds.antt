@@ -6,10 +6,11 @@ use Prim.Native.Nat.{ℕ, ◌*◌, ◌≤◌}
 use native.Mathlib.Omega.{arith}
 use lib.ListN.{length, take, drop}
 use lib.Seq.{take_at, take-append_seam}
+use Rattle.std.proofs.Common.{Result, Ok}
 use Rattle.octets.specs.Bits.{Bytes}
+use Rattle.meaning.specs.declared.Refusal.{Refusal}
 use Rattle.meaning.specs.declared.Kind.{Kind}
-use Rattle.meaning.specs.declared.Read.{Read}
-use Rattle.meaning.specs.declared.Read.TheVariants.{Listed}
+use Rattle.meaning.specs.declared.Listed.{Listed}
 use Rattle.meaning.specs.Sizes.{longest_chunk, longest_listing}
 use Rattle.meaning.specs.Numbers.{read_values}
 use Rattle.meaning.specs.Lists.{FicList, AllKnown}
@@ -17,7 +18,7 @@ use Rattle.meaning.specs.Layout.{wire, Carries}
 use Rattle.meaning.specs.Listing.{listing}
 use Rattle.meaning.specs.Said.{listing_fits, list_said}
 use Rattle.meaning.specs.Plain.{plain, Fits, plain_length, Oldest, VersionsZero}
-use Rattle.meaning.specs.Reading.{ReadSays}
+use Rattle.meaning.specs.Reading.{ReadSays, listed}
 use Rattle.meaning.proofs.Answers.{carried_says}
 use Rattle.meaning.proofs.Said.{listing_fitting, said-listing, listing-said, said_fitting, said-known}
 use Rattle.meaning.proofs.Plain.{length-plain, plain_carried, bytes-carried, carried_fitting, carried_room, carried-known, oldest_plain}
@@ -94,9 +95,9 @@ module _ (k : Kind) (l : FicList) (fits : Fits l) (room : plain_length l ≤ lon
         ∙ unfold plain_segments in payloads_cut chunk choice chunk_bytes (plainly_suits chunk) (omega (arith, length-plain k l fits))
 
     -- given whole to the reader, they are the listing again
-    pub payloads_read : (before : List ℕ) → longest_listing ≤ length before → ReadSays (payloads_of (first_segments (segment_count (plain_length l)) (write_output (listing l) k output))) before (Listed k 0 (length (listing l))) (listing l ++ drop (length (listing l)) before)
+    pub payloads_read : (before : List ℕ) → longest_listing ≤ length before → ReadSays (payloads_of (first_segments (segment_count (plain_length l)) (write_output (listing l) k output))) before (Ok (listed k 0 (length (listing l)))) (listing l ++ drop (length (listing l)) before)
     payloads_read before long =
-        subst (λ (xs : List ℕ). ReadSays xs before (Listed k 0 (length (listing l))) (listing l ++ drop (length (listing l)) before)) (sym written_payloads)
+        subst (λ (xs : List ℕ). ReadSays xs before (Ok (listed k 0 (length (listing l)))) (listing l ++ drop (length (listing l)) before)) (sym written_payloads)
         (carried_says stuffed before long)
 
 -- ---- read after write, for a well formed listing
@@ -126,9 +127,9 @@ module _ (xs : List ℕ) (k : Kind) (output : List ℕ) (bytes : Bytes xs) (fits
       (subst (λ (x : List (List ℕ)). let s = state d first second in ComesInOrder k (listing l) n d.notes.swapped first second (ran s (map (wholly s) x))) (sym (written_segments k l held room all_known output space))
       (segments_delivered k l held room d start first second one other))
 
-  pub read_whole_after_write : (before : List ℕ) → longest_listing ≤ length before → ReadSays (payloads_of (first_segments (segment_count (plain_length (list_said xs))) (write_output xs k output))) before (Listed k 0 (length xs)) (xs ++ drop (length xs) before)
+  pub read_whole_after_write : (before : List ℕ) → longest_listing ≤ length before → ReadSays (payloads_of (first_segments (segment_count (plain_length (list_said xs))) (write_output xs k output))) before (Ok (listed k 0 (length xs))) (xs ++ drop (length xs) before)
   read_whole_after_write before long =
-      subst (λ (ys : List ℕ). ReadSays (payloads_of (first_segments n (write_output ys k output))) before (Listed k 0 (length ys)) (ys ++ drop (length ys) before)) same
+      subst (λ (ys : List ℕ). ReadSays (payloads_of (first_segments n (write_output ys k output))) before (Ok (listed k 0 (length ys))) (ys ++ drop (length ys) before)) same
       (payloads_read k l held room all_known output space before long)
 
 -- ---- write after read, for a chunk of the oldest edition whose ensembles are all of version 0
@@ -137,7 +138,7 @@ module _ {ys : List ℕ} {k : Kind} {m : ℕ} {l : FicList} (h : Carries ys k m 
   carried_listed : (buffer : List ℕ) → longest_listing ≤ length buffer → listed_by ys buffer ≡ listing l
   carried_listed buffer long =
       let s = carried_says h buffer long in
-      ap₂ (λ (r : Read) (t : List ℕ). take (read_values r).length t) (sym s.answers) (sym s.leaves) ∙ take-append_seam (listing l) (drop (length (listing l)) buffer)
+      ap₂ (λ (r : Result Listed Refusal) (t : List ℕ). take (read_values r).length t) (sym s.answers) (sym s.leaves) ∙ take-append_seam (listing l) (drop (length (listing l)) buffer)
 
   pub carried-short : plain_length l ≤ longest_chunk
   carried-short = omega (arith, carried_room h, h.allowed.room, ap length h.bytes)

@@ -7,10 +7,10 @@ use native.Mathlib.Omega.{arith}
 use borrow.Author.Tests.{eq-eqb, ne_eqb}
 use lib.ListN.{length, get_or, drop, set, length-append, length-drop}
 use lib.Seq.{get_or-drop, drop-drop, sets}
+use Rattle.std.proofs.Common.{Ok}
 use Rattle.octets.proofs.Laws.{get_d_there, word_there, high_word, low_word}
 use Rattle.octets.proofs.Stores.{stores, sets-append, sets_behind, behind-mark}
 use Rattle.octets.specs.Word.{word, high, low, word_bytes}
-use Rattle.meaning.specs.declared.Checked.TheVariants.{Fine}
 use Rattle.meaning.specs.Sizes.{ensemble_bytes, service_bytes, ts_bytes, en_bytes, sv_bytes}
 use Rattle.meaning.specs.Lists.{Service, known}
 use Rattle.meaning.specs.Listing.{mark_ts, mark_en, mark_eu, mark_sv, sv_record, ts_record, en_record, eu_record, ensemble_listing, listing}
@@ -115,7 +115,7 @@ past_after xs at e s k is =
     ∙ ap (λ (n : ℕ). drop n xs)
     (sym (add_assoc at (ensemble_bytes + e) (services_room e s (drop at xs))) ∙ ap (λ (m : ℕ). after at e s m) (sym is))
 
-pub ensembles_some : (xs : List ℕ) (at e s n k : ℕ) → at ≤ length xs → 0 < n → ensembles_checks e s n at (drop at xs) ≡ Fine → k ≡ services_in e (drop at xs) → (after at e s k ≤ length xs) × (ensembles_checks e s (n - 1) (after at e s k) (drop (after at e s k) xs) ≡ Fine)
+pub ensembles_some : (xs : List ℕ) (at e s n k : ℕ) → at ≤ length xs → 0 < n → ensembles_checks e s n at (drop at xs) ≡ Ok tt → k ≡ services_in e (drop at xs) → (after at e s k ≤ length xs) × (ensembles_checks e s (n - 1) (after at e s k) (drop (after at e s k) xs) ≡ Ok tt)
 ensembles_some xs at e s zero k inl some fine is = absurd (omega arith)
 ensembles_some xs at e s (suc n) k inl some fine is =
     let h = ensemble-passes e s n at (drop at xs) fine in

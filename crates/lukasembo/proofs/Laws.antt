@@ -7,14 +7,14 @@ use Prim.Native.Nat.{ℕ, ◌/◌, ◌%◌, ◌≤◌, ◌<◌}
 use native.Mathlib.Omega.{arith}
 use lib.Dec.{ltb, lit<, lit≤}
 use lib.ListN.{length}
+use Rattle.std.proofs.Common.{Result, Ok, Err}
 use Rattle.octets.specs.Bits.{Bytes}
 use Rattle.octets.proofs.Laws.{either}
+use Rattle.meaning.specs.declared.Refusal.{Refusal}
 use Rattle.meaning.specs.declared.Kind.{Kind}
 use Rattle.meaning.specs.declared.Kind.TheVariants.{This, Next}
 use Rattle.meaning.specs.declared.Refusal.TheVariants.{ShortBuffer}
 use Rattle.meaning.proofs.Gives.{number_of_small}
-use Rattle.meaning.specs.declared.Checked.{Checked}
-use Rattle.meaning.specs.declared.Checked.TheVariants.{Fine, Fault}
 use Rattle.meaning.specs.Sizes.{longest_chunk, longest_listing}
 use Rattle.meaning.specs.Numbers.{read_values}
 use Rattle.meaning.specs.Lists.{current_of}
@@ -59,9 +59,9 @@ module _ (xs buffer : List ℕ) where
   unfolding read_answer
   listing-short = go (read_checks xs buffer) refl
     where
-      go : (v : Checked) → read_checks xs buffer ≡ v → (read_values (read_for v xs)).length ≤ longest_listing
-      go Fine e = listing-fits xs (check_passed (ltb (length buffer) longest_listing) ShortBuffer (checks xs) e).1
-      go (Fault f) e = lit≤ tt
+      go : (v : Result Unit Refusal) → read_checks xs buffer ≡ v → (read_values (read_for v xs)).length ≤ longest_listing
+      go (Ok _) e = listing-fits xs (check_passed (ltb (length buffer) longest_listing) ShortBuffer (checks xs) e).1
+      go (Err f) e = lit≤ tt
 
   pub offset_small : (read_values (read_answer xs buffer)).at ≤ longest_chunk
   unfolding read_answer
@@ -69,17 +69,17 @@ module _ (xs buffer : List ℕ) where
       either (ltb (length buffer) longest_listing) (λ q. simp q (lit≤ tt))
       (λ q. simp q (go (checks xs) refl))
     where
-      go : (v : Checked) → checks xs ≡ v → (read_values (read_for v xs)).at ≤ longest_chunk
-      go Fine e = lit≤ tt
-      go (Fault f) e = told_small xs f e
+      go : (v : Result Unit Refusal) → checks xs ≡ v → (read_values (read_for v xs)).at ≤ longest_chunk
+      go (Ok _) e = lit≤ tt
+      go (Err f) e = told_small xs f e
 
   read_small : let a = read_answer xs buffer in ((read_values a).number < 0x100) × ((read_values a).kind < 2) × ((read_values a).minor < 8)
   unfolding read_answer
   read_small = go (read_checks xs buffer)
     where
-      go : (v : Checked) → let a = read_for v xs in ((read_values a).number < 0x100) × ((read_values a).kind < 2) × ((read_values a).minor < 8)
-      go Fine = (lit< tt, current_small (kind_in xs), omega arith)
-      go (Fault f) = (number_of_small f, lit< tt, lit< tt)
+      go : (v : Result Unit Refusal) → let a = read_for v xs in ((read_values a).number < 0x100) × ((read_values a).kind < 2) × ((read_values a).minor < 8)
+      go (Ok _) = (lit< tt, current_small (kind_in xs), omega arith)
+      go (Err f) = (number_of_small f, lit< tt, lit< tt)
 
   -- the header's accessors get the parts back
   pub read_parts : let a = read_answer xs buffer in let r = packed_read a in (r % 0x100 ≡ (read_values a).number) × (r / 0x100 % 2 ≡ (read_values a).kind) × (r / 0x200 % 8 ≡ (read_values a).minor) × (r / 0x10000 % 0x10000 ≡ (read_values a).length) × (r / 0x100000000 ≡ (read_values a).at)

@@ -23,27 +23,23 @@ ghost use Rattle.lukasembo.specs.Wraps.{packed_wrapped, writer_in, packed_writer
 use explains::{Explained, Field};
 use fields::Table;
 use guides::{Answer, Gathering};
-use meaning::Read;
+use meaning::{Listed, Refusal};
 use slots::Slot;
 use store::Next;
 use tunnel::{Numbers, Unwrapped};
 use writer::Written;
 
 // The reader's answer as one number.
-fn pack_read(answer: Read) -> u64
+fn pack_read(answer: Result<Listed, Refusal>) -> u64
     requires { ((read_values answer).length ≤ longest_listing) × ((read_values answer).at ≤ longest_chunk) }
     ensures { result ≡ packed_read answer }
 {
     match answer {
-        Read::Listed {
-            kind,
-            minor,
-            length,
-        } => {
-            let current = meaning::current_of(kind);
-            current as u64 * 0x100 + minor as u64 * 0x200 + length as u64 * 0x10000
+        Ok(listed) => {
+            let current = meaning::current_of(listed.kind);
+            current as u64 * 0x100 + listed.minor as u64 * 0x200 + listed.length as u64 * 0x10000
         }
-        Read::Refused(refusal) => {
+        Err(refusal) => {
             let number = meaning::number_of(refusal);
             let at = meaning::offset_of(refusal);
             number as u64 + at as u64 * 0x100000000

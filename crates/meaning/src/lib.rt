@@ -38,22 +38,12 @@ pub enum Refusal {
     BadDesk,
 }
 
-// What the checks on a chunk find.
+// What the reader answers to a chunk that it doesn't refuse: the kind and the minor version of its list, and the length of the listing.
 #[derive(Clone, Copy)]
-pub enum Checked {
-    Fine,
-    Fault(Refusal),
-}
-
-// What the reader answers.
-#[derive(Clone, Copy)]
-pub enum Read {
-    Listed {
-        kind: Kind,
-        minor: u8,
-        length: usize,
-    },
-    Refused(Refusal),
+pub struct Listed {
+    pub kind: Kind,
+    pub minor: u8,
+    pub length: usize,
 }
 
 // The longest chunk: 16 segments of 35 bytes.

@@ -6,7 +6,7 @@ ghost use Rattle.meaning.specs.Sizes.{longest_chunk};
 ghost use Rattle.slots.specs.Slots.{empty_slot};
 ghost use Rattle.notes.specs.Notes.{emptied_notes, length_fits, slot_for, length_for, length_after, notes_with, first_serves, lent_for, too_short};
 
-use meaning::{Kind, LONGEST_CHUNK, LONGEST_LISTING, TS_BYTES};
+use meaning::{Kind, LONGEST_CHUNK, LONGEST_LISTING, Refusal, TS_BYTES};
 use slots::{Answer, Slot};
 
 // The desk's numbers: the slots, the lengths of the listings for this frame and for the next (0 is none), and whether the second buffer
@@ -91,13 +91,13 @@ pub fn length_fits(n: usize) -> bool
 }
 
 // The length of a kind's listing, once a segment of that kind was answered.
-fn length_after(answer: Answer, before: usize) -> usize
+fn length_after(answer: Result<Answer, Refusal>, before: usize) -> usize
     ensures { result ≡ length_after answer before }
 {
     match answer {
-        Answer::NewList { kind: _, length } => length,
-        Answer::Missing(_) => before,
-        Answer::Refused(_) => before,
+        Ok(Answer::NewList { kind: _, length }) => length,
+        Ok(Answer::Missing(_)) => before,
+        Err(_) => before,
     }
 }
 
@@ -134,7 +134,7 @@ pub fn start_of(kind: Kind) -> usize
 }
 
 // The desk's numbers with a kind's slot as it became, and the length of its listing as the answer has it. Internal.
-pub fn with_slot(notes: Notes, kind: Kind, slot: Slot, answer: Answer) -> Notes
+pub fn with_slot(notes: Notes, kind: Kind, slot: Slot, answer: Result<Answer, Refusal>) -> Notes
     ensures { result ≡ notes_with kind notes slot answer }
 {
     let mine = notes.this;

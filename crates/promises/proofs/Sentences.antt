@@ -7,6 +7,7 @@ use Prim.Native.Nat.{ℕ, ◌+◌, ◌-◌, ◌*◌, ◌^◌, ◌≤◌, ◌<◌
 use lib.Dec.{T}
 use lib.ListN.{length, drop}
 use lib.Count.{ones}
+use Rattle.std.proofs.Common.{Ok, Err}
 use Rattle.octets.specs.Bits.{Bytes, Held}
 use Rattle.octets.specs.Each.{Each}
 use Rattle.octets.specs.Checks.{among}
@@ -16,13 +17,11 @@ use Rattle.meaning.specs.declared.Part.{Part}
 use Rattle.meaning.specs.declared.Part.TheVariants.{SingleService}
 use Rattle.meaning.specs.declared.Refusal.{Refusal}
 use Rattle.meaning.specs.declared.Refusal.TheVariants.{Clash, EndsEarly}
-use Rattle.meaning.specs.declared.Checked.TheVariants.{Fine}
 use Rattle.records.specs.Records.{mark_bytes}
 use Rattle.meaning.specs.Sizes.{longest_chunk, longest_listing, ts_bytes, en_bytes, eu_bytes, sv_bytes}
 use Rattle.meaning.specs.Lists.{Ensemble, FicList, services_of, known_count, unknown_count, AllKnown}
 use Rattle.meaning.specs.Layout.{EnsembleRow, ensemble_of, Chunk, Formed, Carries, wire}
 use Rattle.meaning.specs.Listing.{listing}
-use Rattle.meaning.specs.declared.Read.TheVariants.{Refused as NotRead}
 use Rattle.meaning.specs.Ends.{thing_bytes, things, EndsIn}
 use Rattle.meaning.specs.Numbers.{number_of, offset_of, checked_number}
 use Rattle.meaning.specs.Reading.{checks, list_in, Accepts, read_answer, read_buffer}
@@ -52,7 +51,7 @@ use Rattle.typed.specs.declared.Reply.{Reply}
 use Rattle.typed.specs.Typed.{log_of, longest_log, kind_typed, listing_typed, answer_for, ReplyValues, reply_values, reply_to, Answerable, ReplySays}
 use Rattle.typed.proofs.Replies.{values_written, values_refused, values_unasked, log-short}
 use Rattle.slots.specs.declared.Slot.{Slot}
-use Rattle.slots.specs.declared.Answer.TheVariants.{Missing, Refused}
+use Rattle.slots.specs.declared.Answer.TheVariants.{Missing}
 use Rattle.slots.specs.Gathering.{chunk_in}
 use Rattle.octets.specs.Sets.{holds}
 use Rattle.slots.specs.Slots.{spoiled_slot, missing_in}
@@ -124,11 +123,11 @@ chunk_is_things = wire_things
 
 module _ {xs : List ℕ} {p : Part} {at : ℕ} where
   -- the chunk is the beginning of one that the tables lay out, which has at the offset a thing of this part; all before it is there, and it is not
-  pub nine_is_where_it_ends : Bytes xs → (before : List ℕ) → read_answer xs before ≡ NotRead (EndsEarly p at) → EndsIn xs p at
+  pub nine_is_where_it_ends : Bytes xs → (before : List ℕ) → read_answer xs before ≡ Err (EndsEarly p at) → EndsIn xs p at
   nine_is_where_it_ends = answer_ends
 
   -- every such chunk is told so; and there is one such thing only
-  pub where_it_ends_is_nine : EndsIn xs p at → length xs ≤ longest_chunk → (before : List ℕ) → longest_listing ≤ length before → read_answer xs before ≡ NotRead (EndsEarly p at)
+  pub where_it_ends_is_nine : EndsIn xs p at → length xs ≤ longest_chunk → (before : List ℕ) → longest_listing ≤ length before → read_answer xs before ≡ Err (EndsEarly p at)
   where_it_ends_is_nine = ends_answer
 
   pub one_end : {q : Part} {i : ℕ} → EndsIn xs p at → EndsIn xs q i → length xs ≤ longest_chunk → (p ≡ q) × (at ≡ i)
@@ -136,14 +135,14 @@ module _ {xs : List ℕ} {p : Part} {at : ℕ} where
 
 -- of a segment: the chunk that it completes ends so
 module _ (d : Desk) (xs first second : List ℕ) where
-  pub segment_nine : Bytes d.bytes → Bytes xs → (p : Part) (at : ℕ) → (segment_after d xs first second).answer ≡ Refused (EndsEarly p at) → EndsIn (chunk_in (slot_holding d xs)) p at
+  pub segment_nine : Bytes d.bytes → Bytes xs → (p : Part) (at : ℕ) → (segment_after d xs first second).answer ≡ Err (EndsEarly p at) → EndsIn (chunk_in (slot_holding d xs)) p at
   segment_nine = refusal_ends d xs first second
 
   -- the offset is at most the chunk's length, here and of the reader; no other number tells one
-  pub segment-offset : (f : Refusal) → (segment_after d xs first second).answer ≡ Refused f → offset_of f ≤ length (chunk_in (slot_holding d xs))
+  pub segment-offset : (f : Refusal) → (segment_after d xs first second).answer ≡ Err f → offset_of f ≤ length (chunk_in (slot_holding d xs))
   segment-offset = refusal_within d xs first second
 
-pub reader-offset : (xs before : List ℕ) (f : Refusal) → read_answer xs before ≡ NotRead f → offset_of f ≤ length xs
+pub reader-offset : (xs before : List ℕ) (f : Refusal) → read_answer xs before ≡ Err f → offset_of f ≤ length xs
 reader-offset = answer-within
 
 pub only_nine : (f : Refusal) → (number_of f ≡ 9 → ⊥) → offset_of f ≡ 0
@@ -167,10 +166,10 @@ module _ (l : FicList) where
   listing-length = length-listing l
 
 -- 1,475 bytes are enough for every accepted chunk, and are reached
-pub longest_is_enough : (xs : List ℕ) → checks xs ≡ Fine → length (listing (list_in xs)) ≤ longest_listing
+pub longest_is_enough : (xs : List ℕ) → checks xs ≡ Ok tt → length (listing (list_in xs)) ≤ longest_listing
 longest_is_enough = listing-fits
 
-pub longest_is_reached : (xs : List ℕ) × (checks xs ≡ Fine) × (length (listing (list_in xs)) ≡ longest_listing)
+pub longest_is_reached : (xs : List ℕ) × (checks xs ≡ Ok tt) × (length (listing (list_in xs)) ≡ longest_listing)
 longest_is_reached = longest_reached
 
 -- ---- segments: what is read of one are its fields; its reserved bit and its wake_up_indicator never matter
@@ -215,11 +214,11 @@ module _ (d : Desk) (xs first second : List ℕ) where
   abbrev slot : Slot
   slot = (slot_before d xs).slot
 
-  module _ (called : call_checks d xs first second ≡ Fine) where
-    pub repeat_changes_nothing : clashes d xs ≡ false → holds slot.held (number_in xs) ≡ true → r ≡ after (Missing (missing_in slot)) d first second
+  module _ (called : call_checks d xs first second ≡ Ok tt) where
+    pub repeat_changes_nothing : clashes d xs ≡ false → holds slot.held (number_in xs) ≡ true → r ≡ after (Ok (Missing (missing_in slot))) d first second
     repeat_changes_nothing = repeat-unchanged d xs first second called
 
-    pub spoiled_stays : slot.spoiled ≡ true → (r.answer ≡ Refused Clash) × (slot_for (segment_kind xs) r.desk.notes ≡ spoiled_slot)
+    pub spoiled_stays : slot.spoiled ≡ true → (r.answer ≡ Err Clash) × (slot_for (segment_kind xs) r.desk.notes ≡ spoiled_slot)
     spoiled_stays = spoiled_refused d xs first second called
 
   -- ---- the desk: kinds apart

@@ -24,7 +24,7 @@ ghost use Rattle.replies.specs.Replies.{reply_statuses};
 use blocks::Step;
 use desk::{Desk, Taken};
 use manners::{Came, Ending, Sent};
-use meaning::{Checked, Kind, Read, Refusal};
+use meaning::{Kind, Listed, Refusal};
 use records::{Entry, Form};
 use slots::Slot;
 use std::io;
@@ -33,13 +33,13 @@ use writer::{Unwritten, Written};
 
 // ---- the reader
 
-pub fn read(chunk: &[u8], out: &mut [u8]) -> Read
+pub fn read(chunk: &[u8], out: &mut [u8]) -> Result<Listed, Refusal>
     ensures { ReadSays chunk.now out.old result out.new }
 {
     reader::read(chunk, out)
 }
 
-pub fn check_chunk(chunk: &[u8]) -> Checked
+pub fn check_chunk(chunk: &[u8]) -> Result<(), Refusal>
     ensures { result ≡ checks chunk.now }
 {
     chunk_checks::check_chunk(chunk)
@@ -47,7 +47,7 @@ pub fn check_chunk(chunk: &[u8]) -> Checked
 
 // ---- a segment by itself
 
-pub fn check_segment(seg: &[u8]) -> Checked
+pub fn check_segment(seg: &[u8]) -> Result<(), Refusal>
     ensures { result ≡ segment_checks seg.now }
 {
     segments::check_segment(seg)

@@ -8,6 +8,7 @@ use native.Mathlib.Omega.{arith}
 use borrow.Author.Tests.{ne_eqb}
 use lib.ListN.{length, take, drop, length-drop}
 use lib.Seq.{length-take-le, drop-drop}
+use Rattle.std.proofs.Common.{Ok}
 use Rattle.text.specs.Text.{Put}
 use Rattle.text.proofs.Laws.{put_same}
 use Rattle.records.specs.declared.Form.{Form}
@@ -70,7 +71,7 @@ module _ (d : Desk) (xs first second : List ℕ) (r : After) (is : r ≡ segment
   pub left_is : (r.desk ≡ (segment_after d xs first second).desk) × (r.first ≡ (segment_after d xs first second).first) × (r.second ≡ (segment_after d xs first second).second)
   left_is = (ap (λ (q : After). q.desk) is, ap (λ (q : After). q.first) is, ap (λ (q : After). q.second) is)
 
-  module _ (k : Kind) (n : ℕ) (e : r.answer ≡ NewList k n) where
+  module _ (k : Kind) (n : ℕ) (e : r.answer ≡ Ok (NewList k n)) where
     abbrev Shows : After → Type 0
     Shows q = (k ≡ segment_kind xs) × (n ≤ length (lent_for k d.notes.swapped q.first q.second)) × (q.desk.notes.swapped ≡ d.notes.swapped) × (n ≤ longest_listing) × (shown k q.desk q.first q.second ≡ take n (lent_for k d.notes.swapped q.first q.second))
 
@@ -85,7 +86,7 @@ module _ (d : Desk) (xs first second : List ℕ) (r : After) (is : r ≡ segment
 
     pub listed_same : (l : List ℕ) → l ≡ take n (lent_for k r.desk.notes.swapped r.first r.second) → list_lines k l ≡ answer_lines (segment_after d xs first second).answer (shown (segment_kind xs) r.desk r.first r.second)
     listed_same l is' =
-        listed_lines (NewList k n) k n l refl
+        listed_lines (Ok (NewList k n)) k n l refl
         ∙ ap₂ answer_lines (sym e ∙ answer_is)
         (is'
         ∙ ap (λ t. take n (lent_for k t r.first r.second)) shows.2

@@ -13,7 +13,7 @@ ghost use Rattle.lines.specs.Lines.{frame_lines, gathering_line, answer_lines, l
 ghost use Rattle.replay.specs.Log.{log_form, log_program, CallSays, FillSays};
 
 use lines::LONGEST_LINES;
-use meaning::Kind;
+use meaning::{Kind, Refusal};
 use notes::Notes;
 use records::{Entry, Form, MARK_BYTES};
 use segments::SEGMENT_BYTES;
@@ -52,7 +52,7 @@ pub struct Turned {
 pub struct Answered {
     pub notes: Notes,
     pub to: usize,
-    pub answer: Answer,
+    pub answer: Result<Answer, Refusal>,
 }
 
 // What a mark of a log tells.
@@ -133,29 +133,29 @@ pub fn segment(
     let answer = driven.answer;
     let after = driven.notes;
     match answer {
-        Answer::NewList { kind, length } => {
+        Ok(Answer::NewList { kind, length }) => {
             let listing = notes::part(kind, after.swapped, length, first, second);
             let end = lines::put_list(kind, listing, out, to);
             Answered {
                 notes: after,
                 to: end,
-                answer: answer,
+                answer,
             }
         }
-        Answer::Missing(n) => {
+        Ok(Answer::Missing(n)) => {
             let end = lines::put_missing(n, out, to);
             Answered {
                 notes: after,
                 to: end,
-                answer: answer,
+                answer,
             }
         }
-        Answer::Refused(refusal) => {
+        Err(refusal) => {
             let end = lines::put_refused(refusal, out, to);
             Answered {
                 notes: after,
                 to: end,
-                answer: answer,
+                answer,
             }
         }
     }

@@ -5,7 +5,7 @@ ghost use Rattle.std.specs.Prelude.{◌≡◌, ◌+◌, ◌≤◌, length, take,
 ghost use Rattle.std.proofs.lemmas.List.Edits.{sets};
 ghost use Rattle.segments.specs.Segment.{payload_bytes, segment_checks};
 
-use meaning::{Checked, Refusal};
+use meaning::Refusal;
 
 // A segment, its header and its payload; how many segments a chunk has at the most.
 pub const SEGMENT_BYTES: usize = 37;
@@ -18,27 +18,27 @@ pub const MOST_SEGMENTS: u8 = 16;
 
 // The checks on a segment's own length and header, in document 01's order.
 #[tactic(auto, unfolding(crate::specs::Segment::segment_checks))]
-pub fn check_segment(seg: &[u8]) -> Checked
+pub fn check_segment(seg: &[u8]) -> Result<(), Refusal>
     ensures { result ≡ segment_checks seg.now }
 {
     if seg.len() != SEGMENT_BYTES {
-        return Checked::Fault(Refusal::SegmentLength);
+        return Err(Refusal::SegmentLength);
     }
     let first = seg[0];
     let second = seg[1];
     if first / 64 != 0 {
-        return Checked::Fault(Refusal::SegmentType);
+        return Err(Refusal::SegmentType);
     }
     if first % 2 != 0 {
-        return Checked::Fault(Refusal::ErrorBit);
+        return Err(Refusal::ErrorBit);
     }
     if first / 4 % 4 != 0 {
-        return Checked::Fault(Refusal::OtherMajor);
+        return Err(Refusal::OtherMajor);
     }
     if second % 16 < second / 16 {
-        return Checked::Fault(Refusal::NumberAboveLast);
+        return Err(Refusal::NumberAboveLast);
     }
-    Checked::Fine
+    Ok(())
 }
 
 // 35 bytes from a place on, by value: so the copies to and from them are known to touch nothing else, and go in blocks. Internal, as the two

@@ -2,7 +2,7 @@
 // (docs/DECISIONS.md, 7).
 #![tactic(auto)]
 
-ghost use Rattle.std.specs.Prelude.{◌≡◌, true, cond, ◌+◌, ◌*◌, ◌^◌, ◌≤◌, ◌<◌, length, take, drop};
+ghost use Rattle.std.specs.Prelude.{◌≡◌, true, cond, ◌+◌, ◌*◌, ◌^◌, ◌≤◌, ◌<◌, length, take, drop, Ok};
 ghost use Rattle.std.proofs.lemmas.List.Edits.{sets};
 ghost use Rattle.meaning.specs.Sizes.{longest_listing, longest_chunk};
 ghost use Rattle.segments.specs.Segment.{segment_bytes, payload_bytes, most_segments, segment_checks, payload_in};
@@ -12,7 +12,7 @@ ghost use Rattle.slots.specs.Slots.{zeros, no_bytes, missing_in, numbers_fit, by
 ghost use Rattle.slots.specs.Gathering.{side, outcome, gathered, completed};
 ghost use Rattle.slots.specs.Words.{eight};
 
-use meaning::{Checked, Kind, LONGEST_CHUNK, Refusal};
+use meaning::{Kind, LONGEST_CHUNK, Refusal};
 use segments::{MOST_SEGMENTS, PAYLOAD_BYTES, SEGMENT_HEADER_BYTES};
 
 // A slot's numbers; its bytes stand apart. An empty slot has zeros only, a spoiled one besides its mark.
@@ -23,21 +23,20 @@ pub struct Slot {
     pub spoiled: bool,
 }
 
-// What the desk answers to a segment.
+// What the desk answers to a segment that it doesn't refuse.
 #[derive(Clone, Copy)]
 pub enum Answer {
     // accepted; so many are still missing
     Missing(u8),
     // the last missing one: a listing of this length now stands at the start of that kind's buffer
     NewList { kind: Kind, length: usize },
-    Refused(Refusal),
 }
 
 // An answer, with the slot afterwards.
 #[derive(Clone, Copy)]
 pub struct Gathered {
     pub slot: Slot,
-    pub answer: Answer,
+    pub answer: Result<Answer, Refusal>,
 }
 
 // ---- the set of held places
@@ -199,25 +198,18 @@ fn clashes(slot: Slot, bytes: &[u8], seg: &[u8]) -> bool
 }
 
 // A complete slot's chunk: refused, or its listing put to the start of the buffer.
-fn complete(kind: Kind, slot: Slot, bytes: &[u8], out: &mut [u8]) -> Answer
+fn complete(kind: Kind, slot: Slot, bytes: &[u8], out: &mut [u8]) -> Result<Answer, Refusal>
     requires { (length bytes.now ≡ longest_chunk) × (slot.last < most_segments) × (longest_listing ≤ length out.old) }
     ensures { outcome result (side slot bytes.now out.new) ≡ completed kind (side slot bytes.now out.old) }
 {
     let end = PAYLOAD_BYTES * (slot.last as usize + 1);
     let chunk = &bytes[..end];
-    match chunk_checks::check_chunk(chunk) {
-        Checked::Fault(refusal) => Answer::Refused(refusal),
-        Checked::Fine => {
-            if chunk[1] % 2 != meaning::current_of(kind) {
-                return Answer::Refused(Refusal::KindDiffers);
-            }
-            let length = listing_puts::write_listing(chunk, out);
-            Answer::NewList {
-                kind: kind,
-                length: length,
-            }
-        }
+    chunk_checks::check_chunk(chunk)?;
+    if chunk[1] % 2 != meaning::current_of(kind) {
+        return Err(Refusal::KindDiffers);
     }
+    let length = listing_puts::write_listing(chunk, out);
+    Ok(Answer::NewList { kind, length })
 }
 
 // The same, to the first of two buffers or the second.
@@ -228,7 +220,7 @@ fn complete_to(
     bytes: &[u8],
     first: &mut [u8],
     second: &mut [u8],
-) -> Answer
+) -> Result<Answer, Refusal>
     requires { (length bytes.now ≡ longest_chunk) × (slot.last < most_segments) × (longest_listing ≤ length first.old) × (longest_listing ≤ length second.old) }
     ensures second_after { outcome result (side slot bytes.now (cond one first.new second.new)) ≡ completed kind (side slot bytes.now (cond one first.old second.old)) }
     ensures first_unchanged { cond one second.new first.new ≡ cond one second.old first.old }
@@ -250,7 +242,7 @@ pub fn gather(
     first: &mut [u8],
     second: &mut [u8],
 ) -> Gathered
-    requires { (slot_fits slot bytes.old ≡ true) × (segment_checks seg.now ≡ Checked.Fine) × (longest_listing ≤ length first.old) × (longest_listing ≤ length second.old) }
+    requires { (slot_fits slot bytes.old ≡ true) × (segment_checks seg.now ≡ Ok tt) × (longest_listing ≤ length first.old) × (longest_listing ≤ length second.old) }
     ensures second_after { outcome result.answer (side result.slot bytes.new (cond one first.new second.new)) ≡ gathered kind seg.now (side slot bytes.old (cond one first.old second.old)) }
     ensures first_unchanged { cond one second.new first.new ≡ cond one second.old first.old }
 {
@@ -262,14 +254,14 @@ pub fn gather(
                 held: 0,
                 spoiled: true,
             },
-            answer: Answer::Refused(Refusal::Clash),
+            answer: Err(Refusal::Clash),
         };
     }
     let number = seg[1] / 16;
     if holds(slot.held, number) {
         return Gathered {
-            slot: slot,
-            answer: Answer::Missing(missing(slot)),
+            slot,
+            answer: Ok(Answer::Missing(missing(slot))),
         };
     }
     store(bytes, PAYLOAD_BYTES * number as usize, seg);
@@ -282,12 +274,12 @@ pub fn gather(
     if left != 0 {
         return Gathered {
             slot: more,
-            answer: Answer::Missing(left),
+            answer: Ok(Answer::Missing(left)),
         };
     }
     let answer = complete_to(one, kind, more, bytes, first, second);
     Gathered {
         slot: more,
-        answer: answer,
+        answer,
     }
 }

@@ -3,8 +3,8 @@ use mathlib.Core.Path.{sym, ap, ◌∙◌}
 use Rattle.meaning.specs.Numbers.{checked_number}
 use Rattle.explains.proofs.number_for.Goals as goal
 
-pub returns-in-Fine : goal.returns-in-Fine
-returns-in-Fine c = ap checked_number (sym c.in-Fine.is ∙ c.check_segment.ensures)
+pub returns-in-Ok : goal.returns-in-Ok
+returns-in-Ok c = ap checked_number (sym c.in-Ok.is ∙ c.check_segment.ensures)
 
-pub returns-in-Fault : goal.returns-in-Fault
-returns-in-Fault c = c.number_of.ensures ∙ ap checked_number (sym c.in-Fault.is ∙ c.check_segment.ensures)
+pub returns-in-Err : goal.returns-in-Err
+returns-in-Err c = c.number_of.ensures ∙ ap checked_number (sym c.in-Err.is ∙ c.check_segment.ensures)
