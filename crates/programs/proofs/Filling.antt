@@ -12,7 +12,7 @@ use Rattle.records.specs.declared.Form.{Form}
 use Rattle.records.specs.declared.Form.TheVariants.{Foreign, Fixed, Counted}
 use Rattle.records.specs.declared.Entry.{Entry}
 use Rattle.records.specs.declared.Entry.TheVariants.{End, Whole, Unknown, Cut}
-use Rattle.records.specs.Records.{Forms, mark_bytes, mark_in, entry_in, is_whole, size_of, Record, record_in}
+use Rattle.records.specs.Records.{Forms, form_bytes, mark_bytes, mark_in, entry_in, is_whole, size_of, Record, record_in}
 use Rattle.records.specs.Transcripts.{Program, Filled, still, text_in, cost_in, filled, Turned}
 use Rattle.records.specs.Channels.{Channels, output_of, report_of, Turns, Fills}
 use Rattle.records.proofs.Entries.{whole_some}
@@ -26,6 +26,12 @@ pub not_whole : {e : Entry} → (e ≡ End) ⊎ ((e ≡ Unknown) ⊎ (e ≡ Cut)
 not_whole (inl h) = ap is_whole h
 not_whole (inr (inl h)) = ap is_whole h
 not_whole (inr (inr h)) = ap is_whole h
+
+-- no mark tells more than its longest record
+pub holds-short : (f : Form) (xs : List ℕ) → Holds f xs → mark_bytes + length xs ≤ form_bytes f
+holds-short Foreign xs h = absurd h
+holds-short (Fixed n) xs h = omega arith
+holds-short (Counted least most) xs h = omega (arith, h.1)
 
 -- ---- the record at a place of a file: what stands behind its mark
 
