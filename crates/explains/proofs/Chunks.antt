@@ -7,7 +7,7 @@ use native.Mathlib.Omega.{arith}
 use borrow.Author.Tests.{ltb-true, ltb-false, eqb-true, eqb-false}
 use lib.Dec.{T, eqb, ltb}
 use lib.ListN.{length, get_or, take, get_or-append, get_or-eq_default}
-use Rattle.std.proofs.Common.{Result, Err}
+use Rattle.std.proofs.Common.{Result, Err, Some}
 use Rattle.octets.specs.Bits.{Field, field, run, bytes_of, Bytes}
 use Rattle.octets.specs.Each.{Each}
 use Rattle.octets.specs.Checks.{check, among}
@@ -52,7 +52,7 @@ checks_ways xs long other rest =
     rest room (λ two. eqb-true _ _ m) (simp (q, r, m) (gives_number (9 ∷ []) early (search (gives_check, ensembles_give)))))
     (λ m. other room (ltb-false _ _ r) (eqb-false _ _ m) (simp (q, r, m)))))
 
-pub too_long : (xs : List ℕ) → (explained_values (chunk_explained xs)).number ≡ 8 → (chunk_explained xs ≡ Found 8 Length 0 (length xs)) × (longest_chunk < length xs)
+pub too_long : (xs : List ℕ) → (explained_values (chunk_explained xs)).number ≡ 8 → (chunk_explained xs ≡ Some (Found 8 Length 0 (length xs))) × (longest_chunk < length xs)
 unfolding chunk_explained
 too_long xs eight =
     let number = sym (chunk-number xs) ∙ eight in
@@ -61,7 +61,7 @@ too_long xs eight =
     (λ room two m e. absurd (omega (arith, ap checked_number e)))
     (λ room m t. absurd (rw number at t))
 
-pub major_broken : (xs : List ℕ) → Bytes xs → (explained_values (chunk_explained xs)).number ≡ 5 → (chunk_explained xs ≡ Found 5 (Row Chunk 0) 0 (number_at xs 0 2)) × (number_at xs 0 2 ≡ 0 → ⊥) × (2 ≤ length xs) × (length xs ≤ longest_chunk)
+pub major_broken : (xs : List ℕ) → Bytes xs → (explained_values (chunk_explained xs)).number ≡ 5 → (chunk_explained xs ≡ Some (Found 5 (Row Chunk 0) 0 (number_at xs 0 2))) × (number_at xs 0 2 ≡ 0 → ⊥) × (2 ≤ length xs) × (length xs ≤ longest_chunk)
 unfolding chunk_explained before
 major_broken xs b five =
     let number = sym (chunk-number xs) ∙ five in
@@ -195,7 +195,7 @@ module _ {xs : List ℕ} {p : Part} {start : ℕ} (h : EndsIn xs p start) where
         inside = omega (arith, before_next i ws, before_mono (suc i) (length ws) ws row, between.1);
       }
 
-pub not_whole : {xs : List ℕ} {p : Part} {start : ℕ} → Bytes xs → checks xs ≡ Err (EndsEarly p start) → (i : ℕ) × (at : ℕ) × (chunk_explained xs ≡ Found 9 (Row (table_of p) i) at (length xs)) × NotWhole xs p start i at
+pub not_whole : {xs : List ℕ} {p : Part} {start : ℕ} → Bytes xs → checks xs ≡ Err (EndsEarly p start) → (i : ℕ) × (at : ℕ) × (chunk_explained xs ≡ Some (Found 9 (Row (table_of p) i) at (length xs))) × NotWhole xs p start i at
 unfolding chunk_explained
 not_whole {xs} {p} {start} b is =
     checks_ways xs

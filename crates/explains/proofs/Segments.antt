@@ -8,7 +8,7 @@ use native.Mathlib.Omega.{arith}
 use borrow.Author.Tests.{ltb-true, ltb-false, eqb-true, eqb-false, ne_eqb, lt-leb}
 use lib.Dec.{eqb, ltb}
 use lib.ListN.{length, get_or}
-use Rattle.std.proofs.Common.{Result, Ok, Err}
+use Rattle.std.proofs.Common.{Result, Ok, Err, None, Some}
 use Rattle.octets.specs.Bits.{Bytes}
 use Rattle.octets.specs.Tables.{before, number_at}
 use Rattle.octets.proofs.Laws.{either, get_d_byte}
@@ -21,7 +21,7 @@ use Rattle.segments.specs.Segment.{segment_bytes, sort_in, error_in, segment_maj
 use Rattle.segments.proofs.Checks.{checks-length, checks-sort, checks-error, checks-major, checks-number}
 use Rattle.fields.specs.declared.Table.TheVariants.{Segment}
 use Rattle.explains.specs.declared.Field.TheVariants.{Length, Row}
-use Rattle.explains.specs.declared.Explained.TheVariants.{Nothing, Found}
+use Rattle.explains.specs.declared.Explained.TheVariants.{Found}
 use Rattle.explains.specs.Explaining.{explained_values, widths_in, row_fault, segment_row, segment_by, segment_explained}
 use Rattle.explains.specs.Breaks.{wanted, RowBroken, PassesBefore}
 use Rattle.explains.proofs.Exactly.{then_fine, segment-number}
@@ -85,11 +85,11 @@ checks_ways xs length-fails sort-fails error-fails major-fails number-fails fine
     (λ q. length-fails (eqb-false _ _ q) (simp q))
 
 -- what is explained, by what the checks find
-explained_by : (xs : List ℕ) {v : Result Unit Refusal} → segment_checks xs ≡ v → segment_explained xs ≡ segment_by (checked_number v) Nothing xs
+explained_by : (xs : List ℕ) {v : Result Unit Refusal} → segment_checks xs ≡ v → segment_explained xs ≡ segment_by (checked_number v) None xs
 unfolding segment_explained
-explained_by xs is = ap (λ (v : Result Unit Refusal). segment_by (checked_number v) Nothing xs) is
+explained_by xs is = ap (λ (v : Result Unit Refusal). segment_by (checked_number v) None xs) is
 
-pub length_broken : (xs : List ℕ) → (explained_values (segment_explained xs)).number ≡ 2 → (segment_explained xs ≡ Found 2 Length 0 (length xs)) × (length xs ≡ segment_bytes → ⊥)
+pub length_broken : (xs : List ℕ) → (explained_values (segment_explained xs)).number ≡ 2 → (segment_explained xs ≡ Some (Found 2 Length 0 (length xs))) × (length xs ≡ segment_bytes → ⊥)
 length_broken xs two =
     let number = sym (segment-number xs) ∙ two in
     checks_ways xs (λ broken e. (explained_by xs e, broken))
@@ -130,13 +130,13 @@ module _ (xs : List ℕ) (b : Bytes xs) (whole : length xs ≡ segment_bytes) wh
   last_value = byte-value 1 4 4 (omega arith) (omega arith) ∙ omega arith
 
 -- a row that is named with a number is the one for it, and does not hold what that wants
-row_wrong : (xs : List ℕ) (m : ℕ) {n i at value : ℕ} → wanted m xs (value_at (segment_row m) xs) ≡ false → row_fault m Segment (segment_row m) xs ≡ Found n (Row Segment i) at value → RowBroken xs n i at value
+row_wrong : (xs : List ℕ) (m : ℕ) {n i at value : ℕ} → wanted m xs (value_at (segment_row m) xs) ≡ false → Some (row_fault m Segment (segment_row m) xs) ≡ Some (Found n (Row Segment i) at value) → RowBroken xs n i at value
 row_wrong xs m {n} {i} {at} {value} wrong is =
     let number : n ≡ m = cc in
     let same : value ≡ value_at (segment_row m) xs = cc in
     record { row = cc; offset = cc; found = cc; unwanted = (λ j. wanted (number j) xs (same j)) ∙ wrong }
 
-pub row_broken : (xs : List ℕ) {n i at value : ℕ} → Bytes xs → segment_explained xs ≡ Found n (Row Segment i) at value → RowBroken xs n i at value
+pub row_broken : (xs : List ℕ) {n i at value : ℕ} → Bytes xs → segment_explained xs ≡ Some (Found n (Row Segment i) at value) → RowBroken xs n i at value
 row_broken xs b is =
     checks_ways xs
     (λ broken e. let z : ◌≡◌ {A = ℕ} 0 1 = cc (is, explained_by xs e) in absurd (omega arith))

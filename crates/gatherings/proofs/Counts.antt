@@ -25,7 +25,7 @@ module _ (n : ℕ) (k : Kind) (size : ℕ) where
   answers_after came (i ∷ more) inside all h =
       let here = all i h.0 in
       let none : n - different came ≡ 0 = omega (arith, different_all n came inside all) in
-      ap₂ ◌∷◌ (simp here (ap (Ok (Missing none))))
+      ap₂ ◌∷◌ (simp here (ap (λ (m : ℕ). Ok (Missing m)) none))
       (answers_after (i ∷ came) more (h.0, inside) (λ j l. simp (all j l, or-true)) h.1)
 
   -- the piece i has not come yet

@@ -24,7 +24,7 @@ use Rattle.meaning.proofs.Said.{listing_fitting, said-listing, listing-said, sai
 use Rattle.meaning.proofs.Plain.{length-plain, plain_carried, bytes-carried, carried_fitting, carried_room, carried-known, oldest_plain}
 use Rattle.segments.specs.Segment.{segment_bytes}
 use Rattle.segments.specs.Cut.{segment_count, Choice, joined}
-use Rattle.writer.specs.declared.Written.TheVariants.{Segments}
+use Rattle.std.proofs.Common.{Ok}
 use Rattle.writer.specs.Writing.{shortest_output, plainly, plain_segments, write_answer, write_output, WriteSays}
 use Rattle.writer.proofs.Answers.{checks_written, says_written}
 use Rattle.writer.proofs.Sent.{plainly_suits}
@@ -74,14 +74,14 @@ module _ (k : Kind) (l : FicList) (fits : Fits l) (room : plain_length l ≤ lon
     said : list_said (listing l) ≡ l
     said = said-listing l fits formed
 
-    written : let s = plain_segments k l in WriteSays (listing l) k output (Segments (length s)) (joined s ++ drop (segment_bytes * length s) output)
+    written : let s = plain_segments k l in WriteSays (listing l) k output (Ok (length s)) (joined s ++ drop (segment_bytes * length s) output)
     written =
         let fine = checks_written (listing l) output space formed (subst (λ (m : FicList). plain_length m ≤ longest_chunk) (sym said) room) in
-        subst (λ (m : FicList). let s = plain_segments k m in WriteSays (listing l) k output (Segments (length s)) (joined s ++ drop (segment_bytes * length s) output)) said
+        subst (λ (m : FicList). let s = plain_segments k m in WriteSays (listing l) k output (Ok (length s)) (joined s ++ drop (segment_bytes * length s) output)) said
         (says_written (listing l) k output fine)
 
-    pub written_count : write_answer (listing l) k output ≡ Segments (segment_count (plain_length l))
-    written_count = sym written.answers ∙ ap Segments (length-plain_segments k l fits)
+    pub written_count : write_answer (listing l) k output ≡ Ok (segment_count (plain_length l))
+    written_count = sym written.answers ∙ ap Ok (length-plain_segments k l fits)
 
     pub written_segments : first_segments (segment_count (plain_length l)) (write_output (listing l) k output) ≡ plain_segments k l
     written_segments =
@@ -118,8 +118,8 @@ module _ (xs : List ℕ) (k : Kind) (output : List ℕ) (bytes : Bytes xs) (fits
   same : listing l ≡ xs
   same = listing-said xs bytes fits
 
-  pub written_so_many : write_answer xs k output ≡ Segments (segment_count (plain_length (list_said xs)))
-  written_so_many = subst (λ (ys : List ℕ). write_answer ys k output ≡ Segments n) same (written_count k l held room all_known output space)
+  pub written_so_many : write_answer xs k output ≡ Ok (segment_count (plain_length (list_said xs)))
+  written_so_many = subst (λ (ys : List ℕ). write_answer ys k output ≡ Ok n) same (written_count k l held room all_known output space)
 
   pub read_after_write : (d : Desk) → AtStart d → (first second : List ℕ) → longest_listing ≤ length first → longest_listing ≤ length second → let n = segment_count (plain_length (list_said xs)) in let s = state d first second in ComesInOrder k xs n d.notes.swapped first second (ran s (map (wholly s) (first_segments n (write_output xs k output))))
   read_after_write d start first second one other =
@@ -147,7 +147,7 @@ module _ {ys : List ℕ} {k : Kind} {m : ℕ} {l : FicList} (h : Carries ys k m 
   pub oldest_carried : Carries (wire (plain k l)) k 0 l
   oldest_carried = plain_carried k l (carried_fitting h) carried-short
 
-  pub write_after_read : Oldest h.chunk → VersionsZero h.chunk → (buffer output : List ℕ) → longest_listing ≤ length buffer → shortest_output ≤ length output → let n = segment_count (plain_length l) in (write_answer (listed_by ys buffer) k output ≡ Segments n) × (take (plain_length l) (payloads_of (first_segments n (write_output (listed_by ys buffer) k output))) ≡ take (plain_length l) ys) × (ys ≡ take (plain_length l) ys ++ h.chunk.stuffing)
+  pub write_after_read : Oldest h.chunk → VersionsZero h.chunk → (buffer output : List ℕ) → longest_listing ≤ length buffer → shortest_output ≤ length output → let n = segment_count (plain_length l) in (write_answer (listed_by ys buffer) k output ≡ Ok n) × (take (plain_length l) (payloads_of (first_segments n (write_output (listed_by ys buffer) k output))) ≡ take (plain_length l) ys) × (ys ≡ take (plain_length l) ys ++ h.chunk.stuffing)
   write_after_read oldest versions buffer output long space =
       let fits = carried_fitting h in
       let all_known = carried-known h versions in
@@ -159,7 +159,7 @@ module _ {ys : List ℕ} {k : Kind} {m : ℕ} {l : FicList} (h : Carries ys k m 
       let back : take (plain_length l) (payloads_of (first_segments n (write_output (listing l) k output))) ≡ w =
       ap (take (plain_length l)) (written_payloads k l fits carried-short all_known output space) ∙ take_at w (plainly (length w)).fill (plain_length l) size in
       let listed = sym (carried_listed buffer long) in (
-        subst (λ (xs : List ℕ). write_answer xs k output ≡ Segments n) listed (written_count k l fits carried-short all_known output space),
+        subst (λ (xs : List ℕ). write_answer xs k output ≡ Ok n) listed (written_count k l fits carried-short all_known output space),
         subst (λ (xs : List ℕ). take (plain_length l) (payloads_of (first_segments n (write_output xs k output))) ≡ take (plain_length l) ys) listed (back ∙ sym front),
         own ∙ ap (λ (t : List ℕ). t ++ h.chunk.stuffing) (sym front),
       )

@@ -25,9 +25,8 @@ use fields::Table;
 use guides::{Answer, Gathering};
 use meaning::{Listed, Refusal};
 use slots::Slot;
-use store::Next;
 use tunnel::{Numbers, Unwrapped};
-use writer::Written;
+use writer::Unwritten;
 
 // The reader's answer as one number.
 fn pack_read(answer: Result<Listed, Refusal>) -> u64
@@ -48,13 +47,13 @@ fn pack_read(answer: Result<Listed, Refusal>) -> u64
 }
 
 // The writer's answer as one number.
-fn pack_written(answer: Written) -> u64
+fn pack_written(answer: Result<usize, Unwritten>) -> u64
     requires { (written_values answer).count ≤ most_segments }
     ensures { result ≡ packed_written answer }
 {
     match answer {
-        Written::Segments(count) => count as u64 * 0x10000,
-        Written::Refused(refusal) => writer::unwritten_number(refusal) as u64,
+        Ok(count) => count as u64 * 0x10000,
+        Err(refusal) => u8::from(refusal) as u64,
     }
 }
 
@@ -89,10 +88,14 @@ pub struct Step {
 fn unpack_numbers(packed: u64) -> Numbers
     ensures { result ≡ numbers_in packed }
 {
+    let held = (packed % 0x10000) as usize;
+    if packed / 0x100000000 == 0 {
+        return Numbers { last: None, held };
+    }
+    let last = (packed / 0x10000 % 0x10000) as u16;
     Numbers {
-        begun: packed / 0x100000000 != 0,
-        last: (packed / 0x10000 % 0x10000) as u16,
-        held: (packed % 0x10000) as usize,
+        last: Some(last),
+        held,
     }
 }
 
@@ -100,47 +103,40 @@ fn pack_numbers(numbers: Numbers) -> u64
     requires { numbers.held < 65536 }
     ensures { result ≡ packed_numbers numbers }
 {
-    let low = numbers.held as u64 + numbers.last as u64 * 0x10000;
-    if numbers.begun {
-        return low + 0x100000000;
+    match numbers.last {
+        Some(last) => numbers.held as u64 + last as u64 * 0x10000 + 0x100000000,
+        None => numbers.held as u64,
     }
-    low
 }
 
 // What the caller keeps after an answer: where nothing changes, what was given.
-fn left_numbers(answer: Unwrapped, before: u64, after: Numbers) -> u64
+fn left_numbers(answer: Result<Unwrapped, tunnel::Refusal>, before: u64, after: Numbers) -> u64
     requires { after.held < 65536 }
     ensures { result ≡ numbers_left answer before after }
 {
     match answer {
-        Unwrapped::Stored {
-            stored: _,
-            gap: _,
-            lost: _,
-        } => pack_numbers(after),
-        Unwrapped::Repeat => before,
-        Unwrapped::ShortOutput => before,
-        Unwrapped::Foreign => before,
-        Unwrapped::BadOffset { gap: _, lost: _ } => pack_numbers(after),
+        Ok(
+            Unwrapped::Stored {
+                stored: _,
+                gap: _,
+                lost: _,
+            },
+        ) => pack_numbers(after),
+        Ok(Unwrapped::Repeat) => before,
+        Err(tunnel::Refusal::ShortOutput) => before,
+        Err(tunnel::Refusal::Foreign) => before,
+        Err(tunnel::Refusal::BadOffset { gap: _, lost: _ }) => pack_numbers(after),
     }
 }
 
 // The tunnel's answer as one number.
-fn pack_unwrapped(answer: Unwrapped) -> u64
+fn pack_unwrapped(answer: Result<Unwrapped, tunnel::Refusal>) -> u64
     requires { ((unwrapped_values answer).stored < 65536) × ((unwrapped_values answer).lost < 65536) }
     ensures { result ≡ packed_unwrapped answer }
 {
-    match answer {
-        Unwrapped::Stored { stored, gap, lost } => {
-            gap as u64 * 0x10000 + stored as u64 * 0x100000000 + lost as u64 * 0x1000000000000
-        }
-        Unwrapped::Repeat => 0x100,
-        Unwrapped::ShortOutput => 1,
-        Unwrapped::Foreign => 16,
-        Unwrapped::BadOffset { gap, lost } => {
-            17 + gap as u64 * 0x10000 + lost as u64 * 0x1000000000000
-        }
-    }
+    let v = tunnel::values_of(answer);
+    let low = v.number as u64 + v.repeat as u64 * 0x100 + v.gap as u64 * 0x10000;
+    low + v.stored as u64 * 0x100000000 + v.lost as u64 * 0x1000000000000
 }
 
 // Reads an outer packet: the inner packets that it finishes go to the start of the output.
@@ -167,9 +163,9 @@ pub fn lukasembo_next_packet(store: &[u8], at: usize) -> u64
     ensures { result ≡ packed_next (next_in (drop at store.now)) }
 {
     match store::next_at(store, at) {
-        Next::End => 0,
-        Next::Packet(n) => n as u64 * 0x10000,
-        Next::Broken => 15,
+        Ok(Some(n)) => n as u64 * 0x10000,
+        Ok(None) => 0,
+        Err(broken) => u8::from(broken) as u64,
     }
 }
 
@@ -205,7 +201,7 @@ fn pack_wrapped(values: wrapper::Values, timestamp: u32) -> u64
 }
 
 // What a call gave, as the caller gets it.
-fn pack_given(answer: wrapper::Wrapped, numbers: wrapper::Numbers) -> Step
+fn pack_given(answer: Result<usize, wrapper::Refusal>, numbers: wrapper::Numbers) -> Step
     requires { ((wrapped_values answer).wrote < 65536) × (numbers.size < 65536) × (numbers.left < 65536) × (numbers.begin < 65536) }
     ensures { (result.answer ≡ packed_wrapped (wrapped_values answer) numbers.timestamp) × (result.numbers ≡ packed_writer numbers) }
 {

@@ -22,9 +22,9 @@ use Rattle.meaning.specs.Reading.{read_checks, read_answer, ReadSays, listed}
 use Rattle.meaning.proofs.Answers as reading
 use Rattle.segments.specs.Segment.{segment_kind}
 use Rattle.segments.specs.Cut.{segment_count, Choice, Suits, piece_of}
+use Rattle.std.proofs.Common.{Result, Ok, Err}
 use Rattle.writer.specs.declared.Unwritten.{Unwritten}
-use Rattle.writer.specs.declared.Written.{Written}
-use Rattle.writer.specs.Writing.{Fine as WriteFine, Fault as WriteFault, shortest_output, written_fault, plain_segments, write_checks, write_answer, write_output, WriteSays}
+use Rattle.writer.specs.Writing.{shortest_output, written_fault, plain_segments, write_checks, write_answer, write_output, WriteSays}
 use Rattle.writer.proofs.Answers as writing
 use Rattle.slots.specs.declared.Answer.{Answer}
 use Rattle.slots.specs.declared.Answer.TheVariants.{Missing, NewList}
@@ -64,11 +64,11 @@ module _ (xs : List ℕ) (k : Kind) (before : List ℕ) where
   pub write_exactly : written_fault (write_answer xs k before) ≡ write_checks xs before
   write_exactly = writing.answer_exactly xs k before
 
-  pub write_refused : {f : Unwritten} → write_checks xs before ≡ WriteFault f → WriteRefused xs k before f
+  pub write_refused : {f : Unwritten} → write_checks xs before ≡ Err f → WriteRefused xs k before f
   write_refused = fields.write_refused xs k before
 
   -- and a listing that passes has number 0 and its segments, at the start of the output; bytes past them stay
-  pub write-accepted : write_checks xs before ≡ WriteFine → WriteAnswered xs k before (plain_segments k (list_said xs))
+  pub write-accepted : write_checks xs before ≡ Ok tt → WriteAnswered xs k before (plain_segments k (list_said xs))
   write-accepted = fields.write-accepted xs k before
 
 module _ (d : Desk) (xs first second : List ℕ) where
@@ -194,7 +194,7 @@ module _ {a b : Result Listed Refusal} {p q : List ℕ} where
   pub one_read : {xs before : List ℕ} → ReadSays xs before a p → ReadSays xs before b q → (a ≡ b) × (p ≡ q)
   one_read = reading.says_once
 
-module _ (xs : List ℕ) (k : Kind) (before : List ℕ) {a b : Written} {p q : List ℕ} where
+module _ (xs : List ℕ) (k : Kind) (before : List ℕ) {a b : Result ℕ Unwritten} {p q : List ℕ} where
   pub one_written : WriteSays xs k before a p → WriteSays xs k before b q → (a ≡ b) × (p ≡ q)
   one_written = writing.says_once xs k before
 

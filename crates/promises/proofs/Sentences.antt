@@ -42,12 +42,11 @@ use Rattle.segments.specs.Cut.{segment_count}
 use Rattle.segments.proofs.Samples.{given, samples, samples_hold}
 use Rattle.segments.proofs.Checks.{check-numbers}
 use Rattle.segments.proofs.Cut.{segments_hold, segments_fewest}
+use Rattle.std.proofs.Common.{Result, Ok, Err}
 use Rattle.writer.specs.declared.Unwritten.{Unwritten}
 use Rattle.writer.specs.declared.Unwritten.TheVariants.{BadListing}
-use Rattle.writer.specs.declared.Written.{Written}
-use Rattle.writer.specs.declared.Written.TheVariants.{Segments, Refused as NotWritten}
 use Rattle.writer.specs.Writing.{shortest_output, unwritten_number, plain_segments, write_answer}
-use Rattle.typed.specs.declared.Reply.{Reply}
+use Rattle.typed.specs.declared.Unanswered.{Unanswered}
 use Rattle.typed.specs.Typed.{log_of, longest_log, kind_typed, listing_typed, answer_for, ReplyValues, reply_values, reply_to, Answerable, ReplySays}
 use Rattle.typed.proofs.Replies.{values_written, values_refused, values_unasked, log-short}
 use Rattle.slots.specs.declared.Slot.{Slot}
@@ -281,12 +280,12 @@ fitting_well_formed l f k = let formed = listing_fitting l f k in (bytes-listing
 
 -- one with an unknown ensemble is refused with 13
 module _ (l : FicList) (fits : Fits l) (unknown : AllKnown l → ⊥) where
-  pub unknown_not_written : (k : Kind) (output : List ℕ) → shortest_output ≤ length output → write_answer (listing l) k output ≡ NotWritten BadListing
+  pub unknown_not_written : (k : Kind) (output : List ℕ) → shortest_output ≤ length output → write_answer (listing l) k output ≡ Err BadListing
   unknown_not_written = fields.unknown_refused l fits unknown
 
 -- and so is one with a service of another ensemble than that of the `EN` above it
 module _ (xs : List ℕ) (o : OfAnother xs) where
-  pub other_not_written : (k : Kind) (output : List ℕ) → shortest_output ≤ length output → write_answer xs k output ≡ NotWritten BadListing
+  pub other_not_written : (k : Kind) (output : List ℕ) → shortest_output ≤ length output → write_answer xs k output ≡ Err BadListing
   other_not_written = fields.other_refused xs o
 
 -- and any listing, also one with unknown ensembles, is of one list only
@@ -300,7 +299,7 @@ chunk-length = length-plain
 pub fewest : (n : ℕ) → (n ≤ payload_bytes * segment_count n) × ((m : ℕ) → n ≤ payload_bytes * m → segment_count n ≤ m)
 fewest n = (segments_hold n, segments_fewest n)
 
-pub written : (xs : List ℕ) (k : Kind) (output : List ℕ) → Sendable xs → shortest_output ≤ length output → write_answer xs k output ≡ Segments (count_for xs)
+pub written : (xs : List ℕ) (k : Kind) (output : List ℕ) → Sendable xs → shortest_output ≤ length output → write_answer xs k output ≡ Ok (count_for xs)
 written xs k output w space = written_so_many xs k output w.bytes w.fits w.room space
 
 -- through the two programs: the log of the writer's segments prints as the answers and the listing, and the digits that the log prints say the
@@ -313,7 +312,7 @@ pub digits_typed_lem : (xs : List ℕ) → Bytes xs → (hex_fits (length xs) (h
 digits_typed_lem = hex_typed
 
 -- what is typed to `write`: two results can't both meet what is said of the answer; a log has room in 624 bytes
-module _ {a b : Reply} {p q : List ℕ} where
+module _ {a b : Result ℕ Unanswered} {p q : List ℕ} where
   pub one_reply : {typed before : List ℕ} → ReplySays typed before a p → ReplySays typed before b q → (a ≡ b) × (p ≡ q)
   one_reply s t = (s.answers ∙ sym t.answers, s.leaves ∙ sym t.leaves)
 
@@ -323,14 +322,14 @@ module _ (typed log : List ℕ) where
   abbrev values : ReplyValues
   values = reply_values (reply_to typed log)
 
-  abbrev told : Written
+  abbrev told : Result ℕ Unwritten
   told = answer_for (kind_typed typed) (listing_typed typed)
 
   module _ (asked : Answerable typed log) where
-    pub reply_written : {n : ℕ} → told ≡ Segments n → values ≡ record { log = true; number = 0; length = (mark_bytes + segment_bytes) * n }
+    pub reply_written : {n : ℕ} → told ≡ Ok n → values ≡ record { log = true; number = 0; length = (mark_bytes + segment_bytes) * n }
     reply_written = values_written typed log asked
 
-    pub reply_refused : {f : Unwritten} → told ≡ NotWritten f → values ≡ record { log = false; number = unwritten_number f; length = 0 }
+    pub reply_refused : {f : Unwritten} → told ≡ Err f → values ≡ record { log = false; number = unwritten_number f; length = 0 }
     reply_refused = values_refused typed log asked
 
   pub reply_without : (Answerable typed log → ⊥) → values ≡ record { log = false; number = 0; length = 0 }

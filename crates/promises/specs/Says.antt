@@ -19,7 +19,6 @@ use Rattle.meaning.specs.Reading.{major_in, read_answer, read_buffer, ReadSays, 
 use Rattle.segments.specs.Segment.{segment_bytes, segment_header_bytes, Head, sort_in, segment_major, segment_kind, error_in, number_in, last_in, payload_in}
 use Rattle.segments.specs.Cut.{segment_count, up_from, joined}
 use Rattle.writer.specs.declared.Unwritten.{Unwritten}
-use Rattle.writer.specs.declared.Written.TheVariants.{Segments}
 use Rattle.writer.specs.Writing.{unwritten_number, written_values, write_answer, write_output}
 use Rattle.slots.specs.declared.Answer.{Answer}
 use Rattle.slots.specs.Gathering.{answer_values}
@@ -172,7 +171,7 @@ ReadWhole xs k output before =
 
 -- the listing of the chunk ys, written, gives back the bytes of ys before its stuffing
 pub record WrittenBack (ys : List ℕ) (k : Kind) (l : FicList) (stuffing buffer output : List ℕ) : Type 0 where
-  pub answer : write_answer (listed_by ys buffer) k output ≡ Segments (segment_count (plain_length l))
+  pub answer : write_answer (listed_by ys buffer) k output ≡ Ok (segment_count (plain_length l))
   pub bytes :
       take (plain_length l) (payloads_of (first_segments (segment_count (plain_length l)) (write_output (listed_by ys buffer) k output)))
       ≡ take (plain_length l) ys

@@ -28,8 +28,8 @@ use meaning::{Kind, Listed, Refusal};
 use records::{Entry, Form};
 use slots::Slot;
 use std::io;
-use typed::Reply;
-use writer::{Unwritten, Written};
+use typed::Unanswered;
+use writer::Unwritten;
 
 // ---- the reader
 
@@ -55,7 +55,7 @@ pub fn check_segment(seg: &[u8]) -> Result<(), Refusal>
 
 // ---- the writer
 
-pub fn write(listing: &[u8], kind: Kind, out: &mut [u8]) -> Written
+pub fn write(listing: &[u8], kind: Kind, out: &mut [u8]) -> Result<usize, Unwritten>
     ensures { WriteSays listing.now kind out.old result out.new }
 {
     writer::write(listing, kind, out)
@@ -97,7 +97,7 @@ pub fn show<'a>(desk: Desk, kind: Kind, first: &'a [u8], second: &'a [u8]) -> &'
 
 // ---- what is typed, for programs in C, and the small ones
 
-pub fn respond(text: &[u8], log: &mut [u8]) -> Reply
+pub fn respond(text: &[u8], log: &mut [u8]) -> Result<usize, Unanswered>
     ensures { ReplySays text.now log.old result log.new }
 {
     typed::respond(text, log)
@@ -174,7 +174,7 @@ pub fn offset_of(refusal: Refusal) -> u16
 pub fn unwritten_number(refusal: Unwritten) -> u8
     ensures { result ≡ unwritten_number refusal }
 {
-    writer::unwritten_number(refusal)
+    u8::from(refusal)
 }
 
 pub fn word_of(first: u8, second: u8) -> u16

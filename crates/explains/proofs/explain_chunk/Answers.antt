@@ -1,12 +1,9 @@
 -- `explains::explain_chunk` meets its contract, by what the checks give. Assumes nothing.
 use mathlib.Core.Path.{sym, ap, ◌∙◌}
 use Rattle.std.proofs.Common.{Result}
+use Rattle.meaning.specs.declared.Refusal.{Refusal}
 use Rattle.explains.specs.Explaining.{chunk_by, chunk_explained}
 use Rattle.explains.proofs.explain_chunk.Goals as goal
-use Rattle.meaning.specs.declared.Refusal.{Refusal}
-
-pub chunk_fault-requires : goal.chunk_fault-requires
-chunk_fault-requires c = sym c.check_chunk.ensures ∙ c.in-Err.is
 
 pub returns-in-Ok : goal.returns-in-Ok
 unfolding chunk_explained
