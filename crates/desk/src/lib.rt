@@ -115,7 +115,7 @@ pub fn drive(
             notes,
         },
         Ok(_) => {
-            let kind = meaning::kind_of(seg[0] / 2 % 2);
+            let kind = Kind::from(seg[0] / 2 % 2);
             steer(kind, notes, bytes, seg, first, second)
         }
     }

@@ -16,11 +16,13 @@ use Rattle.records.specs.declared.Form.{Form}
 use Rattle.records.specs.declared.Form.TheVariants.{Foreign, Fixed, Counted}
 use Rattle.records.specs.declared.Entry.{Entry}
 use Rattle.records.specs.declared.Entry.TheVariants.{End, Whole, Unknown, Cut}
-use Rattle.records.specs.Records.{mark_bytes, length_bytes, mark_of, mark_in, entry_in, is_whole, size_of, Record, record_in, body_in}
+use Rattle.records.specs.Records.{mark_bytes, length_bytes, mark_of, mark_in, entry_in, is_whole, size_of, Record, record_in, body_in, form_bytes}
 use Rattle.records.specs.Transcripts.{text_in, filled}
-use Rattle.records.proofs.Entries.{allowed, size_by, form_bytes, count_within, Within}
+use Rattle.records.proofs.Entries.{allowed, size_by, count_within, Within}
 use Rattle.records.proofs.Counted.{whole_told}
 use Rattle.records.proofs.Transcripts.{filled_cases, cost-text}
+use Rattle.programs.specs.Programs.{Holds}
+use Rattle.programs.proofs.Filling.{holds-short}
 use Rattle.meaning.specs.declared.Kind.{Kind}
 use Rattle.meaning.specs.declared.Refusal.{Refusal}
 use Rattle.meaning.specs.declared.Refusal.TheVariants.{ShortBuffer, SegmentLength, SegmentType, ErrorBit, OtherMajor, NumberAboveLast, Clash, TooLong, EndsEarly, KindDiffers, BadDesk}
@@ -78,7 +80,7 @@ differing_most [] zs = omega arith
 differing_most (y ∷ ys) [] = omega arith
 differing_most (y ∷ ys) (z ∷ zs) = either (eqb y z) (λ t. simp t (omega (arith, differing_most ys zs))) (λ t. simp t (omega arith))
 
-abbrev Short : List ℕ → Type 0
+abbrev pub Short : List ℕ → Type 0
 Short xs = length xs ≤ longest_record
 
 module _ (xs : List ℕ) (short : Short xs) where
@@ -167,7 +169,7 @@ module _ (s : State) (y : Ready s) where
       either (eqb r.mark (mark_of "FR")) (λ t. simp t tt)
       (λ t. either (eqb r.mark (mark_of "GA")) (λ u. simp (t, u) tt) (λ u. simp (t, u) (under_small r.content short)))
 
-  record_fits : (r : Record) → Short r.content → length (lines_of s r) ≤ longest_text
+  pub record_fits : (r : Record) → Short r.content → length (lines_of s r) ≤ longest_text
   record_fits r short =
       either (is_chunk r) (λ t. rw t (chunk-fits (body_in r) (omega (arith, length-drop length_bytes r.content))))
       (λ t.
@@ -179,36 +181,9 @@ module _ (s : State) (y : Ready s) where
 pub explain_within : Within longest_record explain_form
 explain_within m = either (eqb m (mark_of "CH")) (λ t. rw t (omega arith)) (λ t. rw t (omega (arith, log-within m)))
 
-size-within : (f : Form) (xs : List ℕ) → allowed f xs ≡ true → size_by f xs ≤ form_bytes f
-size-within Foreign xs a = absurd (true≢false (sym a))
-size-within (Fixed n) xs a = omega arith
-size-within (Counted least most) xs a = omega (arith, count_within xs least most a)
-
-content-short : (xs : List ℕ) (e : Entry) → e ≡ entry_in explain_form xs → Short (record_in (size_of e) xs).content
-content-short xs (Whole size) is =
-    let form : Form = explain_form (mark_in xs) in
-    let told = whole_told explain_form xs size is form refl in
-    omega (arith, length-take (size - mark_bytes) (drop mark_bytes xs), size-within form xs told.0, told.1, explain_within (mark_in xs))
-content-short xs End is = omega arith
-content-short xs Unknown is = omega arith
-content-short xs Cut is = omega arith
-
-pub text-fits : (s : State) (xs : List ℕ) → Ready s → length (text_in explain_program s xs) ≤ longest_text
-text-fits s xs y =
-    let e : Entry = entry_in explain_form xs in
-    either (is_whole e) (λ w. rw w (record_fits s y (record_in (size_of e) xs) (content-short xs e refl))) (λ w. rw w (omega arith))
+-- a record that a mark tells is no longer
+pub record-short : (mark : ℕ) (content : List ℕ) → Holds (explain_form mark) content → Short content
+record-short mark content holds = omega (arith, holds-short (explain_form mark) content holds, explain_within mark)
 
 pub explain_ready : (s : State) (r : Record) → Ready s → Ready (explain_program.next s r)
 explain_ready s r y = either (is_chunk r) (λ t. rw t y) (λ t. rw t (next_ready s r y))
-
-pub filled-fits : (room : ℕ) (s : State) (xs : List ℕ) → Ready s → length (filled explain_program room s xs).text ≤ room
-filled-fits =
-    filled_cases explain_program (λ room s xs f. Ready s → length f.text ≤ room) (λ room s xs t y. omega arith)
-    (λ room s xs w r f q y.
-    omega (
-      arith,
-      text-fits s xs y,
-      cost-text explain_program (λ s r. refl) s xs,
-      length-append (text_in explain_program s xs) f.text,
-      q (rw w (explain_ready s (record_in (size_of (entry_in explain_form xs)) xs) y)),
-    ))

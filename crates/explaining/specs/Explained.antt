@@ -4,7 +4,7 @@ use Rattle.std.specs.Option.{option_or}
 use Rattle.text.specs.Text.{Put}
 use Rattle.records.specs.declared.Form.TheVariants.{Counted}
 use Rattle.records.specs.Records.{mark_bytes, length_bytes, mark_of, Forms, Record, body_in, last_line}
-use Rattle.records.specs.Transcripts.{Program, filled}
+use Rattle.records.specs.Transcripts.{Program}
 use Rattle.segments.specs.Segment.{segment_kind}
 use Rattle.slots.specs.declared.Answer.{Answer}
 use Rattle.slots.specs.declared.Answer.TheVariants.{Missing, NewList}
@@ -78,9 +78,3 @@ abbrev pub RecordSays : State → ℕ → List ℕ → State → List ℕ → �
 RecordSays s mark content t out to left end =
     let r : Record = record { mark = mark; content = content } in
     (t ≡ left_of s r) × Put (lines_of s r) out to left end
-
--- what the records at the start of a block leave, as many as the output takes
-abbrev pub FillSays : State → List ℕ → List ℕ → State → ℕ → List ℕ → ℕ → Type 0
-FillSays s block out t read left wrote =
-    let f = filled explain_program (length out) s block in
-    (t ≡ f.state) × (read ≡ f.read) × Put f.text out 0 left wrote

@@ -23,7 +23,7 @@ ghost use Rattle.lukasembo.specs.Wraps.{packed_wrapped, writer_in, packed_writer
 use explains::{Explained, Field};
 use fields::Table;
 use guides::{Answer, Gathering};
-use meaning::{Listed, Refusal};
+use meaning::{Kind, Listed, Refusal};
 use slots::Slot;
 use tunnel::{Numbers, Unwrapped};
 use writer::Unwritten;
@@ -35,12 +35,12 @@ fn pack_read(answer: Result<Listed, Refusal>) -> u64
 {
     match answer {
         Ok(listed) => {
-            let current = meaning::current_of(listed.kind);
+            let current = u8::from(listed.kind);
             current as u64 * 0x100 + listed.minor as u64 * 0x200 + listed.length as u64 * 0x10000
         }
         Err(refusal) => {
-            let number = meaning::number_of(refusal);
-            let at = meaning::offset_of(refusal);
+            let number = u8::from(refusal);
+            let at = refusal.offset();
             number as u64 + at as u64 * 0x100000000
         }
     }
@@ -69,7 +69,7 @@ pub fn lukasembo_read(chunk: &[u8], buffer: &mut [u8]) -> u64
 pub fn lukasembo_write(listing: &[u8], current: u8, output: &mut [u8]) -> u64
     ensures { (result ≡ packed_written (write_answer listing.now (kind_of current) output.old)) × (output.new ≡ write_output listing.now (kind_of current) output.old) }
 {
-    let kind = meaning::kind_of(current);
+    let kind = Kind::from(current);
     let answer = writer::write(listing, kind, output);
     pack_written(answer)
 }

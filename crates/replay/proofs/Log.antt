@@ -9,10 +9,10 @@ use lib.ListN.{length, take, length-take}
 use Rattle.std.proofs.Common.{Result, Ok, Err}
 use Rattle.records.specs.declared.Form.{Form}
 use Rattle.records.specs.declared.Form.TheVariants.{Foreign, Fixed}
-use Rattle.records.specs.Records.{mark_of, Record, File, file_in}
+use Rattle.records.specs.Records.{mark_of, Record, File, file_in, form_bytes}
 use Rattle.records.specs.declared.Entry.{Entry}
 use Rattle.records.specs.Transcripts.{text_of, printed_with as Transcripts·printedWith}
-use Rattle.records.proofs.Entries.{form_bytes, Within}
+use Rattle.records.proofs.Entries.{Within}
 use Rattle.records.proofs.Transcripts.{Fits}
 use Rattle.meaning.specs.declared.Refusal.{Refusal}
 use Rattle.meaning.specs.declared.Kind.{Kind}
