@@ -1,6 +1,6 @@
 -- Laws of the desk's definitions in the code's own terms. Assumes nothing.
 use mathlib.Core.Path.{◌≡◌, sym, ap, ◌∙◌}
-use mathlib.Core.Bool.{Bool, true, false, cond, not, ◌&&◌, ◌||◌, and-false, not-not}
+use mathlib.Core.Bool.{Bool, true, false, cond, not, ◌&&◌, ◌||◌, not-not}
 use mathlib.Core.List.{List, ◌++◌}
 use Prim.Native.Nat.{ℕ, ◌≤◌}
 use native.Mathlib.Omega.{arith}
@@ -8,17 +8,16 @@ use lib.ListN.{length, take}
 use Rattle.std.proofs.Common.{Result, Ok, Err}
 use Rattle.octets.proofs.Laws.{either}
 use Rattle.meaning.specs.declared.Kind.{Kind}
-use Rattle.meaning.specs.declared.Kind.TheVariants.{This, Next}
 use Rattle.meaning.specs.declared.Refusal.{Refusal}
 use Rattle.meaning.specs.declared.Refusal.TheVariants.{ShortBuffer, BadDesk}
 use Rattle.meaning.specs.Sizes.{longest_listing}
 use Rattle.slots.specs.declared.Slot.{Slot}
 use Rattle.slots.specs.declared.Answer.{Answer}
 use Rattle.segments.specs.Segment.{segment_kind, segment_checks}
-use Rattle.slots.specs.Slots.{no_bytes, slot_fits}
+use Rattle.slots.specs.Slots.{no_bytes}
 use Rattle.slots.specs.Gathering.{side, Outcome, outcome, gathered}
 use Rattle.notes.specs.declared.Notes.{Notes}
-use Rattle.notes.specs.Notes.{emptied_notes, length_fits, slot_for, length_for, first_serves, lent_for, too_short, notes_with}
+use Rattle.notes.specs.Notes.{emptied_notes, slot_for, length_for, first_serves, lent_for, too_short, notes_with}
 use Rattle.desk.specs.declared.Desk.{Desk}
 use Rattle.desk.specs.Desks.{desk, bytes_for, emptied, fresh, well_formed, new_gathering, new_frame, After, after, side_of, bytes_with, taken_by, segment_after, shown_length, shown}
 use Rattle.desk.proofs.Parts.{length_for_small}
