@@ -312,6 +312,7 @@ pub struct Explanation {
     pub value: u64,
 }
 
+// Stays: (a) numbers of the C interface, as lukasembo.h has them; a `From` would belong to `fields`, which knows nothing of C.
 fn table_number(table: Table) -> u8
     ensures value { result ≡ table_number table }
     ensures upper_bound { result ≤ 0x40 }
@@ -342,12 +343,14 @@ fn pack_explained(explained: Option<Explained>) -> Explanation
             answer: 0,
             value: 0,
         },
-        Some(Explained::Found {
-            number,
-            field,
-            at,
-            value,
-        }) => {
+        Some(
+            Explained::Found {
+                number,
+                field,
+                at,
+                value,
+            },
+        ) => {
             let low = number as u64 + field_number(field) as u64 * 0x100;
             Explanation {
                 answer: low + at as u64 * 0x100000000,
