@@ -64,7 +64,7 @@ fn put_ensembles(records: &[u8], count: u8, chunk: &mut [u8], start: usize)
 {
     let mut rest = records;
     let mut to = start;
-    for i in 0..count {
+    for _ in 0..count {
         let services = rest[5] as usize;
         put_ensemble(rest, chunk, to);
         rest = &rest[EN_BYTES + SV_BYTES * services..];

@@ -65,7 +65,7 @@ fn ensembles_length(records: &[u8], count: u8) -> Option<usize>
 {
     let mut rest = records;
     let mut length = CHUNK_HEADER_BYTES;
-    for i in 0..count {
+    for _ in 0..count {
         if !ensemble_fits(rest) {
             return None;
         }

@@ -7,7 +7,7 @@ use Rattle.meaning.specs.Said.{ensembles_fit}
 use Rattle.chunk_puts.specs.Laid.{ensembles_laid}
 use Rattle.chunk_puts.proofs.put_ensembles.Given as goal
 
-abbrev pub invariant-loop-i : goal.invariant-loop-i
-invariant-loop-i l = (ensembles_fit (l.count - l.i) l.rest ≡ true)
-    × (l.to + length (ensembles_laid (l.count - l.i) l.rest) ≤ length l.chunk)
-    × (sets l.chunk l.to (ensembles_laid (l.count - l.i) l.rest) ≡ sets l.initial.chunk l.start (ensembles_laid l.count l.records))
+abbrev pub invariant-loop : goal.invariant-loop
+invariant-loop l = (ensembles_fit (l.count - l.counter) l.rest ≡ true)
+    × (l.to + length (ensembles_laid (l.count - l.counter) l.rest) ≤ length l.chunk)
+    × (sets l.chunk l.to (ensembles_laid (l.count - l.counter) l.rest) ≡ sets l.initial.chunk l.start (ensembles_laid l.count l.records))

@@ -5,6 +5,6 @@ use Rattle.meaning.specs.Sizes.{chunk_header_bytes}
 use Rattle.listing_checks.proofs.Lengths.{length_with}
 use Rattle.listing_checks.proofs.ensembles_length.Given as goal
 
-abbrev pub invariant-loop-i : goal.invariant-loop-i
-invariant-loop-i l = (l.length + length l.rest ≤ chunk_header_bytes + length l.records)
-    × (length_with l.length (l.count - l.i) l.rest ≡ length_with chunk_header_bytes l.count l.records)
+abbrev pub invariant-loop : goal.invariant-loop
+invariant-loop l = (l.length + length l.rest ≤ chunk_header_bytes + length l.records)
+    × (length_with l.length (l.count - l.counter) l.rest ≡ length_with chunk_header_bytes l.count l.records)
