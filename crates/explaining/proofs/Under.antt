@@ -29,7 +29,6 @@ use Rattle.desk.specs.Calls.{State, answer_to, Ready}
 use Rattle.effects.specs.Effects.{slot_holding, clashes, completing, chunk_checks, Leaves, unchanged, spoils, completes}
 use Rattle.effects.proofs.Refusals.{early_numbers, refusal_leaves, of_each, early_number}
 use Rattle.explains.specs.declared.Explained.{Explained}
-use Rattle.explains.specs.declared.Explained.TheVariants.{Found, Spoiled}
 use Rattle.explains.specs.Explaining.{explained_values, chunk_explained, gathered_explained}
 use Rattle.explains.proofs.Exactly.{chunk-number, gathered-number}
 use Rattle.explaining.specs.Explained.{under_segment}
