@@ -5,18 +5,21 @@ ghost use Rattle.std.specs.Prelude.{◌≡◌, ◌+◌, ◌*◌, ◌≤◌, ◌<
 ghost use Rattle.meaning.specs.Sizes.{longest_chunk};
 ghost use Rattle.meaning.specs.Reading.{checks, ensembles_checks};
 
-use meaning::{
-    CHUNK_HEADER_BYTES, ENSEMBLE_BYTES, LONGEST_CHUNK, Part, Refusal, SERVICE_BYTES,
-};
+use meaning::{CHUNK_HEADER_BYTES, ENSEMBLE_BYTES, LONGEST_CHUNK, Part, Refusal, SERVICE_BYTES};
 
 // The checks on count ensembles from a place of the chunk on, their extensions e and s bytes long. An ensemble of any version has this form.
-fn check_ensembles(chunk: &[u8], from: usize, e: usize, s: usize, count: usize) -> Result<(), Refusal>
+fn check_ensembles(
+    chunk: &[u8],
+    from: usize,
+    e: usize,
+    s: usize,
+    count: usize,
+) -> Result<(), Refusal>
     requires { (from ≤ length chunk.now) × (length chunk.now ≤ longest_chunk) × (e < 8) × (s < 8) }
     ensures { result ≡ ensembles_checks e s count from (drop from chunk.now) }
 {
     let mut at = from;
-    let mut left = count;
-    while 0 < left {
+    for _ in 0..count {
         if chunk.len() - at < ENSEMBLE_BYTES + e {
             // its fields run past the end
             let start = at as u16;
@@ -40,7 +43,6 @@ fn check_ensembles(chunk: &[u8], from: usize, e: usize, s: usize, count: usize) 
             });
         }
         at = inside + room;
-        left -= 1;
     }
     Ok(())
 }

@@ -68,7 +68,7 @@ fn kind_in(seg: &[u8]) -> Kind
     if seg.len() == 0 {
         return Kind::Next;
     }
-    meaning::kind_of(seg[0] / 2 % 2)
+    Kind::from(seg[0] / 2 % 2)
 }
 
 // The segment itself and the slot of its kind.

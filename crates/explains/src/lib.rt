@@ -44,7 +44,7 @@ fn length_fault(refusal: Refusal, bytes: &[u8]) -> Explained
     ensures { result ≡ length_fault (number_of refusal) bytes.now }
 {
     Explained::Found {
-        number: meaning::number_of(refusal),
+        number: u8::from(refusal),
         field: Field::Length,
         at: 0,
         value: bytes.len(),
@@ -78,7 +78,7 @@ fn row_fault(refusal: Refusal, table: Table, row: u8, bytes: &[u8]) -> Explained
 {
     let found = fields::row_found(table, run_in(table, bytes), row, bytes);
     Explained::Found {
-        number: meaning::number_of(refusal),
+        number: u8::from(refusal),
         field: Field::Row { table, row },
         at: found.at,
         value: found.value,

@@ -57,8 +57,8 @@ pub fn put_refusal(refusal: Refusal, out: &mut [u8], to: usize) -> usize
     requires { to + 32 ≤ length out.old }
     ensures { Put (refusal_line refusal) out.old to out.new result }
 {
-    let number = meaning::number_of(refusal);
-    let offset = meaning::offset_of(refusal);
+    let number = u8::from(refusal);
+    let offset = refusal.offset();
     text::put_refused(9, number, offset, out, to)
 }
 

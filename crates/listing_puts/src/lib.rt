@@ -10,8 +10,7 @@ ghost use Rattle.meaning.specs.Listing.{sv_record, eu_record, ensemble_listing, 
 ghost use Rattle.meaning.specs.Reading.{checks, ensembles_checks, service_at, services_at, known_at, unknown_at, ensemble_at, ensembles_at, services_in, services_room, list_in};
 
 use meaning::{
-    CHUNK_HEADER_BYTES, EN_BYTES, ENSEMBLE_BYTES, EU_BYTES, SERVICE_BYTES, SV_BYTES,
-    TS_BYTES,
+    CHUNK_HEADER_BYTES, EN_BYTES, ENSEMBLE_BYTES, EU_BYTES, SERVICE_BYTES, SV_BYTES, TS_BYTES,
 };
 
 // The record of the service at a place of the chunk, of the ensemble with this id, put at a place of the output.
@@ -46,12 +45,10 @@ fn write_services(
 {
     let mut at = from;
     let mut to = start;
-    let mut left = count;
-    while 0 < left {
+    for _ in 0..count {
         write_service(chunk, at, ensemble, out, to);
         at += SERVICE_BYTES + s;
         to += SV_BYTES;
-        left -= 1;
     }
 }
 
@@ -125,12 +122,10 @@ fn write_ensembles(
 {
     let mut at = from;
     let mut to = start;
-    let mut left = count;
-    while 0 < left {
+    for _ in 0..count {
         to = write_ensemble(chunk, at, e, s, out, to);
         let services = chunk[at + (3 + e)] as usize;
         at = at + (ENSEMBLE_BYTES + e) + services * (SERVICE_BYTES + s);
-        left -= 1;
     }
     to
 }

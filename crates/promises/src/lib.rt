@@ -150,25 +150,25 @@ pub fn slot_fits(slot: Slot, bytes: &[u8]) -> bool
 pub fn kind_of(current: u8) -> Kind
     ensures { result ≡ kind_of current }
 {
-    meaning::kind_of(current)
+    Kind::from(current)
 }
 
 pub fn current_of(kind: Kind) -> u8
     ensures { result ≡ current_of kind }
 {
-    meaning::current_of(kind)
+    u8::from(kind)
 }
 
 pub fn number_of(refusal: Refusal) -> u8
     ensures { result ≡ number_of refusal }
 {
-    meaning::number_of(refusal)
+    u8::from(refusal)
 }
 
 pub fn offset_of(refusal: Refusal) -> u16
     ensures { result ≡ offset_of refusal }
 {
-    meaning::offset_of(refusal)
+    refusal.offset()
 }
 
 pub fn unwritten_number(refusal: Unwritten) -> u8

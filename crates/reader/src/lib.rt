@@ -3,7 +3,7 @@
 
 ghost use Rattle.meaning.specs.Reading.{ReadSays};
 
-use meaning::{LONGEST_LISTING, Listed, Refusal};
+use meaning::{Kind, LONGEST_LISTING, Listed, Refusal};
 
 // Reads a chunk: its listing goes to the start of the lent buffer, and a refusal writes nothing.
 pub fn read(chunk: &[u8], out: &mut [u8]) -> Result<Listed, Refusal>
@@ -14,7 +14,7 @@ pub fn read(chunk: &[u8], out: &mut [u8]) -> Result<Listed, Refusal>
     }
     chunk_checks::check_chunk(chunk)?;
     let length = listing_puts::write_listing(chunk, out);
-    let kind = meaning::kind_of(chunk[1] % 2);
+    let kind = Kind::from(chunk[1] % 2);
     let minor = chunk[0] / 8 % 8;
     Ok(Listed {
         kind,

@@ -33,7 +33,7 @@ pub all_below_lem : (n : ℕ) (f : ℕ → Bool) → ((i : ℕ) → i < n → f 
 all_below_lem zero f h = refl
 all_below_lem (suc n) f h = simp (h n (omega arith)) (all_below_lem n f (λ i l. h i (omega arith)))
 
-below_all : (n : ℕ) (f : ℕ → Bool) → all_below n f ≡ true → (i : ℕ) → i < n → f i ≡ true
+pub below_all : (n : ℕ) (f : ℕ → Bool) → all_below n f ≡ true → (i : ℕ) → i < n → f i ≡ true
 below_all zero f e i l = absurd (omega arith)
 below_all (suc n) f e i l =
     let p = (and-eq-true_iff (f n) (all_below n f)).0 e in

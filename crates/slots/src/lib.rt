@@ -8,9 +8,8 @@ ghost use Rattle.meaning.specs.Sizes.{longest_listing, longest_chunk};
 ghost use Rattle.segments.specs.Segment.{segment_bytes, payload_bytes, most_segments, segment_checks, payload_in};
 ghost use Rattle.octets.specs.Same.{same as Same·same};
 ghost use Rattle.octets.specs.Sets.{holds as Sets·holds};
-ghost use Rattle.slots.specs.Slots.{zeros, no_bytes, missing_in, numbers_fit, bytes_fit, slot_fits, clashing};
+ghost use Rattle.slots.specs.Slots.{no_bytes, missing_in, numbers_fit, bytes_fit, slot_fits, clashing};
 ghost use Rattle.slots.specs.Gathering.{side, outcome, gathered, completed};
-ghost use Rattle.slots.specs.Words.{eight};
 
 use meaning::{Kind, LONGEST_CHUNK, Refusal};
 use segments::{MOST_SEGMENTS, PAYLOAD_BYTES, SEGMENT_HEADER_BYTES};
@@ -66,38 +65,12 @@ fn missing(slot: Slot) -> u8
 
 // ---- the bytes of a place
 
-// Eight bytes as one number.
-fn word_at(s: &[u8], at: usize) -> u64
-    requires { at + 8 ≤ length s.now }
-    ensures { result ≡ eight s.now at }
-{
-    wide(s[at])
-        + wide(s[at + 1]) * 0x100
-        + wide(s[at + 2]) * 0x10000
-        + wide(s[at + 3]) * 0x1000000
-        + wide(s[at + 4]) * 0x100000000
-        + wide(s[at + 5]) * 0x10000000000
-        + wide(s[at + 6]) * 0x1000000000000
-        + wide(s[at + 7]) * 0x100000000000000
-}
-
-fn wide(byte: u8) -> u64
-    ensures value { result ≡ byte }
-    ensures upper_bound { result < 256 }
-{
-    byte as u64
-}
-
-// Whether 35 bytes of a are those of b: by words, the last two of which overlap.
+// Whether 35 bytes of a are those of b.
 fn same(a: &[u8], at: usize, b: &[u8], from: usize) -> bool
     requires { (at + payload_bytes ≤ length a.now) × (from + payload_bytes ≤ length b.now) }
     ensures { result ≡ Same·same (take payload_bytes (drop at a.now)) (take payload_bytes (drop from b.now)) }
 {
-    word_at(a, at) == word_at(b, from)
-        && word_at(a, at + 8) == word_at(b, from + 8)
-        && word_at(a, at + 16) == word_at(b, from + 16)
-        && word_at(a, at + 24) == word_at(b, from + 24)
-        && word_at(a, at + 27) == word_at(b, from + 27)
+    a[at..at + PAYLOAD_BYTES] == b[from..from + PAYLOAD_BYTES]
 }
 
 // Puts a segment's payload at a place.
@@ -110,23 +83,13 @@ fn store(bytes: &mut [u8], at: usize, seg: &[u8])
 
 // ---- slots
 
-fn wipe(bytes: &mut [u8])
-    ensures { bytes.new ≡ zeros (length bytes.old) }
-{
-    let mut i = 0;
-    while i < bytes.len() {
-        bytes[i] = 0;
-        i += 1;
-    }
-}
-
 // Clears the bytes of a slot; one that holds nothing has none. Internal.
 pub fn clear(slot: Slot, bytes: &mut [u8])
     requires { slot_fits slot bytes.old ≡ true }
     ensures { bytes.new ≡ no_bytes }
 {
     if slot.held != 0 {
-        wipe(bytes);
+        bytes.fill(0);
     }
 }
 
@@ -135,14 +98,13 @@ fn bytes_fit(held: u16, bytes: &[u8]) -> bool
     requires { length bytes.now ≡ longest_chunk }
     ensures { result ≡ bytes_fit held bytes.now }
 {
-    let none: &[u8] = &[0u8; PAYLOAD_BYTES];
-    let mut fits = true;
-    let mut place = 0u8;
-    while place < MOST_SEGMENTS {
-        fits = fits && (holds(held, place) || same(bytes, PAYLOAD_BYTES * place as usize, none, 0));
-        place += 1;
+    let none = [0u8; PAYLOAD_BYTES];
+    for place in 0..MOST_SEGMENTS {
+        if !holds(held, place) && !same(bytes, PAYLOAD_BYTES * place as usize, &none, 0) {
+            return false;
+        }
     }
-    fits
+    true
 }
 
 fn numbers_fit(slot: Slot) -> bool
@@ -205,7 +167,7 @@ fn complete(kind: Kind, slot: Slot, bytes: &[u8], out: &mut [u8]) -> Result<Answ
     let end = PAYLOAD_BYTES * (slot.last as usize + 1);
     let chunk = &bytes[..end];
     chunk_checks::check_chunk(chunk)?;
-    if chunk[1] % 2 != meaning::current_of(kind) {
+    if chunk[1] % 2 != u8::from(kind) {
         return Err(Refusal::KindDiffers);
     }
     let length = listing_puts::write_listing(chunk, out);
@@ -278,8 +240,5 @@ pub fn gather(
         };
     }
     let answer = complete_to(one, kind, more, bytes, first, second);
-    Gathered {
-        slot: more,
-        answer,
-    }
+    Gathered { slot: more, answer }
 }

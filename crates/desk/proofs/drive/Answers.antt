@@ -15,4 +15,4 @@ pub returns-in-Err : goal.returns-in-Err
 returns-in-Err c = taken_refused _ _ _ _ (record { formed = c.requires.0; left = c.requires.1; right = c.requires.2 }) (sym c.in-Err.ensures)
 
 pub returns-in-Ok : goal.returns-in-Ok
-returns-in-Ok c = taken_steered _ _ _ _ (record { formed = c.requires.0; left = c.requires.1; right = c.requires.2 }) (sym c.in-Ok.ensures) c.kind_of-kind.ensures c.steer.ensures
+returns-in-Ok c = taken_steered _ _ _ _ (record { formed = c.requires.0; left = c.requires.1; right = c.requires.2 }) (sym c.in-Ok.ensures) c.from-kind.ensures c.steer.ensures

@@ -6,4 +6,4 @@ use Rattle.lines.proofs.put_refusal.Goals as goal
 
 pub returns : goal.returns
 returns c = let a = c.args in
-    put_same a.out.now a.to (ap₂ (refused_with 9) c.number_of-number.ensures c.offset_of-offset.ensures) c.put_refused.ensures
+    put_same a.out.now a.to (ap₂ (refused_with 9) c.from-number.ensures c.offset-offset.ensures) c.put_refused.ensures

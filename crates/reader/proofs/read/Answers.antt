@@ -29,6 +29,6 @@ pub returns : goal.returns
 returns c = read-stored c.args.chunk.now c.args.out.now _ _ _
     c.if-out-lt-LONGEST_LISTING.false
     (sym c.in_ok-check_chunk.ensures)
-    c.kind_of-kind.ensures
+    c.from-kind.ensures
     c.write_listing-length.ensures.value
     c.write_listing-length.ensures.out_after

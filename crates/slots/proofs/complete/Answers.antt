@@ -15,8 +15,8 @@ slice_bounds-chunk-end c = sym (length-take-le _ _ (omega (arith, c.requires)))
 pub bounds-chunk-1 : goal.bounds-chunk-1
 bounds-chunk-1 c = omega (arith, (header-passes (chunk_in (side c.args.slot c.args.bytes.now c.args.out.now)) (sym c.in_ok-check_chunk.ensures)).0.fields)
 
-pub returns-then-chunk-current_of : goal.returns-then-chunk-current_of
-returns-then-chunk-current_of c = kind_refused c.args.kind (side c.args.slot c.args.bytes.now c.args.out.now) (sym c.in_ok-check_chunk.ensures) (λ same. c.if-chunk-current_of.true (same ∙ sym c.current_of.ensures))
+pub returns-then-chunk-from : goal.returns-then-chunk-from
+returns-then-chunk-from c = kind_refused c.args.kind (side c.args.slot c.args.bytes.now c.args.out.now) (sym c.in_ok-check_chunk.ensures) (λ same. c.if-chunk-from.true (same ∙ sym c.from.ensures))
 
 pub write_listing-length-requires : goal.write_listing-length-requires
 write_listing-length-requires c = (sym c.in_ok-check_chunk.ensures, c.requires.2)
@@ -30,6 +30,6 @@ pub returns : goal.returns
 returns c = chunk_listed c.args.kind (side c.args.slot c.args.bytes.now c.args.out.now) _ _
     c.requires.2
     (sym c.in_ok-check_chunk.ensures)
-    (c.if-chunk-current_of.false ∙ c.current_of.ensures)
+    (c.if-chunk-from.false ∙ c.from.ensures)
     c.write_listing-length.ensures.value
     c.write_listing-length.ensures.out_after

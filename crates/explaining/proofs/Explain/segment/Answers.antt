@@ -3,6 +3,7 @@ use mathlib.Core.Path.{ap}
 use Rattle.std.proofs.Common.{Option}
 use native.Mathlib.Omega.{arith}
 use mathlib.Core.List.{◌++◌}
+use Rattle.std.proofs.Common.{Option}
 use Rattle.text.proofs.Laws.{put_both, put_same}
 use Rattle.segments.specs.Segment.{segment_kind}
 use Rattle.lines.specs.Lines.{answer_lines}
