@@ -85,7 +85,13 @@ impl Replay {
         desk::clear(notes, &mut self.desk.bytes);
         let after = notes.frame();
         self.desk.notes = after;
-        let listing = notes::part(Kind::This, after.swapped, after.shown, &self.first, &self.second);
+        let listing = notes::part(
+            Kind::This,
+            after.swapped,
+            after.shown,
+            &self.first,
+            &self.second,
+        );
         lines::put_frame(listing, out, to)
     }
 
@@ -111,7 +117,13 @@ impl Replay {
         ensures put { Text·Put (answer_lines (segment_after self.old.desk seg.now self.old.first self.old.second).answer (shown (segment_kind seg.now) self.new.desk self.new.first self.new.second)) out.old to out.new result.to }
     {
         let notes = self.desk.notes;
-        let driven = desk::drive(notes, &mut self.desk.bytes, seg, &mut self.first, &mut self.second);
+        let driven = desk::drive(
+            notes,
+            &mut self.desk.bytes,
+            seg,
+            &mut self.first,
+            &mut self.second,
+        );
         let after = driven.notes;
         self.desk.notes = after;
         let answer = driven.answer;
