@@ -25,7 +25,7 @@ use Rattle.sections.specs.Sizes.{head_bytes, longest_section}
 use Rattle.sections.specs.Walks.{place_of, counted, provider, providers, providers_in, loops}
 use Rattle.sections.specs.Reading.{number_of, offset_of, standing, provider_place, names_from, names_in}
 use Rattle.sections.proofs.Laws.{then_goes, then_there, walk_within}
-use Rattle.sections.proofs.Names.{providers_snoc, providers-inside, in_force_passes, passes-longest, provider_passed, provider_there, total, length-names, names_room}
+use Rattle.sections.proofs.Names.{head_there, providers_snoc, providers-inside, in_force_passes, passes-longest, provider_passed, provider_there, total, length-names, names_room}
 use Rattle.guides.specs.declared.Answer.{Answer}
 use Rattle.guides.specs.declared.Answer.TheVariants.{NotOurs, NotYet, Noted, Repeat}
 use Rattle.guide_lines.specs.Lines.{escaped, escaped_name, name_text, name_line, name_lines, refusal_line, answer_line, NamesHad, section_lines, longest_lines}
@@ -192,3 +192,9 @@ lines_fit (Err f) xs had small byte = omega (arith, length-append (refusal_line 
 lines_fit (Ok (Noted missing)) xs had small byte =
     omega (arith, length-append (text "SE 0 missing " ++ numbered missing) (name_lines 0 (names_in xs)), length-numbered 4 missing (omega arith), names_fit xs had byte)
 lines_fit (Ok (Repeat missing)) xs had small byte = omega (arith, length-append (text "SE 0 repeat missing " ++ numbered missing) [], length-numbered 4 missing (omega arith))
+
+-- ---- what the functions' goals are closed by
+
+pub ruleset of_names = (name-inside, head_there)
+
+pub ruleset of_lines = (length-line)

@@ -58,6 +58,7 @@ fn put_name(name: &[u8], out: &mut [u8], to: usize) -> usize
 }
 
 // The line of a name.
+#[tactic(auto, using(crate::proofs::Laws::of_lines))]
 fn put_name_line(n: usize, name: &[u8], out: &mut [u8], to: usize) -> usize
     requires { to + length (name_line n name.now) ≤ length out.old }
     ensures { Put (name_line n name.now) out.old to out.new result }
@@ -69,6 +70,7 @@ fn put_name_line(n: usize, name: &[u8], out: &mut [u8], to: usize) -> usize
 }
 
 // The lines of a section's names, of one in force.
+#[tactic(auto, using(crate::proofs::Laws::of_names))]
 fn put_names(section: &[u8], out: &mut [u8], to: usize) -> usize
     requires { (standing section.now ≡ Ok InForce) × (to + length (name_lines 0 (names_in section.now)) ≤ length out.old) }
     ensures { Put (name_lines 0 (names_in section.now)) out.old to out.new result }

@@ -1,17 +1,11 @@
 -- Laws of the gathering in the code's own terms. Assumes nothing.
 use mathlib.Core.Path.{◌≡◌, refl, sym, ap, subst}
 use mathlib.Core.Bool.{true, false, cond}
-use mathlib.Core.List.{List}
-use Prim.Native.Nat.{ℕ, ◌≤◌}
+use Prim.Native.Nat.{ℕ}
 use borrow.Author.Tests.{eq-eqb, eqb-true}
 use lib.Dec.{eqb}
-use lib.ListN.{length}
 use Rattle.octets.proofs.Laws.{either}
 use Rattle.std.specs.Prelude.{Ok}
-use Rattle.sections.specs.declared.Standing.TheVariants.{InForce}
-use Rattle.sections.specs.Sizes.{head_bytes}
-use Rattle.sections.specs.Reading.{standing}
-use Rattle.sections.proofs.Names.{in_force_passes}
 use Rattle.guides.specs.declared.Gathering.{Gathering}
 use Rattle.guides.specs.declared.Told.{Told}
 use Rattle.guides.specs.declared.Answer.TheVariants.{Noted, Repeat}
@@ -53,8 +47,3 @@ module _ (b : Gathering) (number : ℕ) where
 pub read_begun : (g : Gathering) (version number last : ℕ) {b : Gathering} → b ≡ begun_as g version last → read_as g version number last ≡ read_to b number
 unfolding read_as
 read_begun g version number last is = ap (λ (h : Gathering). read_to h number) (sym is)
-
--- ---- a section in force has its head
-
-pub head_there : (xs : List ℕ) → Ok InForce ≡ standing xs → head_bytes ≤ length xs
-head_there xs e = (in_force_passes (sym e)).head

@@ -48,6 +48,7 @@ pub struct Values {
 
 // ---- the set of noted numbers
 
+#[tactic(auto, using(octets::proofs::Sets::bit_exact))]
 fn bit(place: u8) -> u64
     requires { place < 64 }
     ensures { result ≡ 2 ^ place }
@@ -56,6 +57,7 @@ fn bit(place: u8) -> u64
 }
 
 // How many of the first bits of a word are ones: all of them, where there are fewer.
+#[tactic(auto, using(octets::proofs::Sets::bit_exact, crate::proofs::Words::all_bits))]
 fn ones_within(word: u64, room: u16) -> u16
     ensures { result ≡ ones (word % 2 ^ room) }
 {
@@ -80,6 +82,7 @@ pub fn fresh() -> Gathering
 
 impl Gathering {
     // Whether a number is noted.
+    #[tactic(auto, using(octets::proofs::Sets::bit_pos))]
     fn has(self, number: u8) -> bool
         ensures { result ≡ is_noted self.noted number }
     {
@@ -88,6 +91,7 @@ impl Gathering {
     }
 
     // With one number more.
+    #[tactic(auto, using(octets::proofs::Sets::including_small))]
     fn with(self, number: u8) -> Gathering
         requires { is_noted self.noted number ≡ false }
         ensures { result ≡ noted_as self number }
@@ -112,6 +116,7 @@ impl Gathering {
     }
 
     // How many numbers up to the last are missing.
+    #[tactic(auto, using(crate::proofs::Counts::count_most))]
     fn missing(self) -> u16
         ensures { result ≡ missing_in self }
     {
@@ -159,7 +164,7 @@ impl Gathering {
     }
 
     // Takes a section; all but one in force leave the gathering as found.
-    #[tactic(auto, using(crate::proofs::Laws::head_there), unfolding(crate::specs::Gathering::told))]
+    #[tactic(auto, using(sections::proofs::Names::head_there), unfolding(crate::specs::Gathering::told))]
     pub fn take(self, section: &[u8]) -> Told
         ensures { SectionSays self section.now result.answer result.gathering }
     {

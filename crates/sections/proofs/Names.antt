@@ -117,6 +117,9 @@ in_force_passes {xs} e =
       ends = loops_end_lem xs (loops xs) (loops-inside xs head).short g.1;
     }
 
+pub head_there : (xs : List ℕ) → Ok InForce ≡ standing xs → head_bytes ≤ length xs
+head_there xs e = (in_force_passes (sym e)).head
+
 pub passes_in_force : {xs : List ℕ} → Passes xs → standing xs ≡ Ok InForce
 unfolding standing has_length loops_standing
 passes_in_force {xs} h =

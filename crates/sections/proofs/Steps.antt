@@ -47,9 +47,6 @@ module _ (xs : List ℕ) where
       go (Ok NotYet) e = cc
       go (Err f) e = cc
 
-  pub in_force_head : is_in_force (standing xs) ≡ true → head_bytes ≤ length xs
-  in_force_head e = (in_force_passes (in_force e)).head
-
   pub count_none : is_in_force (standing xs) ≡ false → name_count xs ≡ 0
   unfolding name_count
   count_none e = simp e refl

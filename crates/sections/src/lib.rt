@@ -195,7 +195,7 @@ fn check_head(section: &[u8]) -> Result<Standing, Refusal>
 }
 
 // The checks on a section, in the request's order.
-#[tactic(auto, unfolding(crate::specs::Reading::standing))]
+#[tactic(auto, using(crate::proofs::Steps::length_right), unfolding(crate::specs::Reading::standing))]
 pub fn check_section(section: &[u8]) -> Result<Standing, Refusal>
     ensures { result ≡ standing section.now }
 {
@@ -214,7 +214,7 @@ pub fn check_section(section: &[u8]) -> Result<Standing, Refusal>
 // ---- the names
 
 // How many names a section has: none, where it is not in force.
-#[tactic(auto, unfolding(crate::specs::Reading::name_count))]
+#[tactic(auto, using(crate::proofs::Names::head_there), unfolding(crate::specs::Reading::name_count))]
 pub fn name_count(section: &[u8]) -> usize
     ensures { result ≡ name_count section.now }
 {

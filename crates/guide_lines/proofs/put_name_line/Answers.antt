@@ -1,23 +1,10 @@
 -- `guide_lines::put_name_line` meets its contract: the word, the number, the name and the line's end come one after the other. Assumes nothing.
 use mathlib.Core.List.{◌++◌}
-use native.Mathlib.Omega.{arith}
 use Rattle.text.specs.Text.{text, newline, decimal}
 use Rattle.text.proofs.Laws.{put_same, put_both}
 use Rattle.guide_lines.specs.Lines.{name_text}
-use Rattle.guide_lines.proofs.Laws.{line_parts, length-line}
+use Rattle.guide_lines.proofs.Laws.{line_parts}
 use Rattle.guide_lines.proofs.put_name_line.Goals as goal
-
-pub put_text-word-requires : goal.put_text-word-requires
-put_text-word-requires c = omega (arith, c.requires, length-line c.args.n c.args.name.now)
-
-pub put_number-at-requires : goal.put_number-at-requires
-put_number-at-requires c = omega (arith, c.requires, length-line c.args.n c.args.name.now, c.put_text-word.ensures.0)
-
-pub put_name-end-requires : goal.put_name-end-requires
-put_name-end-requires c = omega (arith, c.requires, length-line c.args.n c.args.name.now, c.put_text-word.ensures.0, c.put_number-at.ensures.0)
-
-pub put_text-requires : goal.put_text-requires
-put_text-requires c = omega (arith, c.requires, length-line c.args.n c.args.name.now, c.put_text-word.ensures.0, c.put_number-at.ensures.0, c.put_name-end.ensures.0)
 
 pub returns : goal.returns
 returns c = let a = c.args in

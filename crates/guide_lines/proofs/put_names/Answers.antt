@@ -20,9 +20,6 @@ line section n place = name_line n (take (place + 1 + get_or section place 0 - (
 abbrev after : List ℕ → ℕ → ℕ → List ℕ
 after section n place = name_lines (n + 1) (names_from section (get_or section 8 0 - (n + 1)) (place_of (provider section place)))
 
-pub bounds-section-8 : goal.bounds-section-8
-bounds-section-8 c = omega (arith, (in_force_passes c.requires.0).head)
-
 pub loop-n-init : goal.loop-n-init
 loop-n-init c = let xs = c.args.section.now in
     let whole = sub-zero (get_or xs 8 0) in
@@ -34,14 +31,6 @@ overflow_add-from c = let l = c.loop-n in
 
 pub bounds-section-place : goal.bounds-section-place
 bounds-section-place c = let l = c.loop-n in
-    omega (arith, name-inside c.args.section.now l.n l.place c.requires.0 c.loop-n-test.true l.invariant.0)
-
-pub overflow_add-from-in-loop-n : goal.overflow_add-from-in-loop-n
-overflow_add-from-in-loop-n c = let l = c.loop-n in
-    omega (arith, name-inside c.args.section.now l.n l.place c.requires.0 c.loop-n-test.true l.invariant.0)
-
-pub slice_bounds-put_name_line-end : goal.slice_bounds-put_name_line-end
-slice_bounds-put_name_line-end c = let l = c.loop-n in
     omega (arith, name-inside c.args.section.now l.n l.place c.requires.0 c.loop-n-test.true l.invariant.0)
 
 pub put_name_line-at-requires : goal.put_name_line-at-requires
