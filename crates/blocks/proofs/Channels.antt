@@ -11,6 +11,7 @@ use Rattle.records.specs.Channels.{Channels, output_of, report_of}
 use Rattle.records.specs.Channels.{Fills as Filled}
 use Rattle.records.proofs.Transcripts.{filled_alike}
 use Rattle.records.proofs.Channels.{Room, output-fits, report-fits}
+use Rattle.programs.specs.Programs.{PutsLast}
 use Rattle.manners.specs.declared.Sent.{Sent}
 use Rattle.manners.specs.declared.Ending.{Ending}
 use Rattle.blocks.specs.declared.Step.{Step}
@@ -18,7 +19,7 @@ use Rattle.blocks.specs.declared.Step.TheVariants.{Next}
 use Rattle.blocks.specs.declared.Unread.{Unread}
 use Rattle.blocks.specs.Blocks.{most_turns, unread, Proceeds, Concludes}
 use Rattle.blocks.specs.Channels.{BothSay, LastSaid, RunSays}
-use Rattle.blocks.proofs.Laws.{unread-length, no_more, Fills, filled_before, filled-inside, turn_says, Keeps, turn_keeps, concluded}
+use Rattle.blocks.proofs.Laws.{unread-length, no_more, Fills, put_front, filled_before, filled-inside, turn_says, Keeps, turn_keeps, concluded}
 
 module _ {S : Type 0} (c : Channels S) where
   -- ---- a turn: the unread part of a block was filled
@@ -59,6 +60,13 @@ module _ {S : Type 0} (c : Channels S) where
       turn_keeps (output_of c) (λ t. Unit {0}) (λ t r y. tt) (length out) s old at have out t new out' wrote u says.output tt ahead inside
 
   -- ---- a run, ended at a step
+
+  pub last_said : (s : S) (e : Entry) (out report out' : List ℕ) (to : ℕ) (report' : List ℕ) (told : ℕ) → PutsLast c s e out report out' to report' told → LastSaid c s e out' report'
+  last_said s e out report out' to report' told puts =
+      record {
+        output = put_front (c.last s e) out out' to puts.stores puts.output-fits;
+        lines = put_front (c.last_report s e) report report' told puts.tells puts.report-fits;
+      }
 
   pub run_says : (step : Step) (r : Ending) (turns turns' : ℕ) (block : List ℕ) (at at' have have' : ℕ) (out report : List ℕ) (s : S) → Concludes step (entry_in c.forms (unread block at have)) r × LastSaid c s (entry_in c.forms (unread block at have)) out report × (turns' ≡ turns) × (at' ≡ at) × (have' ≡ have) → (no_more step ≡ true → is_whole (entry_in c.forms (unread block at have)) ≡ false) → (step ≡ Next → turns ≡ most_turns) → RunSays c r turns' (entry_in c.forms (unread block at' have')) out report
   run_says step r turns turns' block at at' have have' out report s g over spent =

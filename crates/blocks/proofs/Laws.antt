@@ -14,7 +14,7 @@ use lib.Seq.{take-suc, take-suc-set, take-take, take_all, take_at, length-take-l
 use Rattle.text.specs.Text.{Put}
 use Rattle.records.specs.declared.Entry.{Entry}
 use Rattle.records.specs.declared.Entry.TheVariants.{End, Whole, Unknown, Cut}
-use Rattle.records.specs.Records.{Forms, entry_in, is_whole, end_number, last_line, longest_last, Record}
+use Rattle.records.specs.Records.{Forms, mark_in, entry_in, is_whole, end_number, last_line, longest_last, Record}
 use Rattle.records.specs.Transcripts.{Program, filled}
 use Rattle.records.proofs.Entries.{Within, entry_short, length_last}
 use Rattle.records.proofs.Counted.{drop-take}
@@ -130,7 +130,7 @@ module _ (forms : Forms) (old : List ℕ) (at have : ℕ) (ahead : at ≤ have) 
   -- an entry that needs more is shorter than the longest record: there is room for a byte
   pub room_for_more : (longest : ℕ) → Within longest forms → longest ≤ length old → (e ≡ End) ⊎ (e ≡ Cut) → have - at < length old
   room_for_more longest within long short =
-      omega (arith, entry_short forms longest within (unread old at have) e stands-unread short, unread-length old at have ahead inside)
+      omega (arith, entry_short forms longest (unread old at have) (within (mark_in (unread old at have))) e stands-unread short, unread-length old at have ahead inside)
 
 -- the input is at its end, or could not be read
 abbrev pub no_more : Step → Bool

@@ -1,11 +1,16 @@
 // A file of records is read through a block: what is unread is kept, and more is read behind it.
 #![tactic(auto)]
 
-ghost use Rattle.std.specs.Prelude.{◌≡◌, ◌⊎◌, ◌+◌, ◌-◌, ◌≤◌, ◌<◌, length, take, drop};
-ghost use Rattle.blocks.specs.Blocks.{step_after, Refilled, Advances, Proceeds, stops_at, Concludes, Settles};
-ghost use Rattle.records.specs.Records.{longest_last};
+ghost use Rattle.std.specs.Prelude.{◌≡◌, ◌⊎◌, ◌+◌, ◌-◌, ◌≤◌, ◌<◌, T, length, take, drop};
+ghost use Rattle.octets.specs.Checks.{among};
+ghost use Rattle.manners.specs.Manners.{status_of};
+ghost use Rattle.records.specs.Records.{longest_last, entry_in};
+ghost use Rattle.programs.specs.Programs.{Tellable};
+ghost use Rattle.blocks.specs.Blocks.{unread as Blocks·unread, step_after, Refilled, Advances, Proceeds, stops_at, Concludes, Settles, run_statuses};
+ghost use Rattle.blocks.specs.Channels.{BothSay, LastSaid, RunSays};
 
 use manners::{Came, Ending, Sent};
+use programs::Program;
 use records::Entry;
 use std::io;
 use std::io::{Read, Write};
@@ -194,4 +199,115 @@ pub fn finish<W: Write>(
         at: at,
         have: have,
     }
+}
+
+// ---- a run of a program
+
+// After a turn: how far the output and the report were written, and what is unread.
+#[derive(Clone, Copy)]
+struct Turned {
+    wrote: usize,
+    told: usize,
+    unread: Unread,
+}
+
+// One turn: the records at the start of what is unread, as many as the output has room for; what they put is written, and it goes on behind them.
+fn turn<P: Program, R: Read, W: Write, V: Write>(
+    program: &mut P,
+    block: &mut [u8],
+    at: usize,
+    have: usize,
+    out: &mut [u8],
+    report: &mut [u8],
+    from: &mut R,
+    to: &mut W,
+    aside: &mut V,
+) -> Turned
+    requires ready { P.Ready program.old }
+    requires at_le_have { (at ≤ have) × (have ≤ length block.old) × (P.longest_record ≤ length block.old) }
+    requires tellable { Tellable P.reports 0 (length out.old) report.old }
+    ensures both_say { BothSay P.channels (P.seen program.old) block.old at have out.old report.old (P.seen program.new) block.new out.new result.wrote report.new result.told result.unread }
+    ensures ready { P.Ready program.new }
+{
+    let f = programs::fill(program, &block[at..have], out, report);
+    let wrote = f.wrote;
+    let told = f.told;
+    let next = at + f.read;
+    let entry = programs::entry_at::<P>(&block[..have], next);
+    let sent = manners::write_both(to, &out[..wrote], aside, &report[..told]);
+    let unread = proceed(sent, from, block, at, next, have, entry);
+    Turned { wrote, told, unread }
+}
+
+// Ends a run at a step: what comes last is put, and written if no more can come.
+fn close<P: Program, W: Write, V: Write>(
+    program: &mut P,
+    step: Step,
+    turns: u64,
+    block: &[u8],
+    at: usize,
+    have: usize,
+    out: &mut [u8],
+    report: &mut [u8],
+    to: &mut W,
+    aside: &mut V,
+) -> Ended
+    requires ready { P.Ready program.old }
+    requires at_le_have { (at ≤ have) × (have ≤ length block.now) }
+    requires room { P.channels.longest ≤ length out.old }
+    requires tellable { Tellable P.reports 0 P.channels.longest report.old }
+    ensures { Concludes step (entry_in P.channels.forms (Blocks·unread block.now at have)) result.ending × LastSaid P.channels (P.seen program.old) (entry_in P.channels.forms (Blocks·unread block.now at have)) out.new report.new × (result.turns ≡ turns) × (result.at ≡ at) × (result.have ≡ have) }
+{
+    let entry = programs::entry_at::<P>(&block[..have], at);
+    let put = program.put_last(entry, out, report);
+    let ending = conclude(step, entry, &out[..put.wrote], to, &report[..put.told], aside);
+    Ended { ending, turns, at, have }
+}
+
+// Runs a program on a file that is read through the lent block. Internal.
+pub fn run<P: Program, R: Read, W: Write, V: Write>(
+    program: &mut P,
+    block: &mut [u8],
+    out: &mut [u8],
+    report: &mut [u8],
+    from: &mut R,
+    to: &mut W,
+    aside: &mut V,
+) -> Ended
+    requires ready { P.Ready program.old }
+    requires room { (P.channels.longest ≤ length out.old) × (P.longest_record ≤ length block.old) }
+    requires tellable { Tellable P.reports 0 (length out.old) report.old }
+    ensures { RunSays P.channels result.ending result.turns (entry_in P.channels.forms (Blocks·unread block.new result.at result.have)) out.new report.new }
+{
+    let mut at = 0;
+    let mut have = 0;
+    let mut turns = 0u64;
+    while turns < u64::MAX {
+        turns += 1;
+        let u = turn(program, block, at, have, out, report, from, to, aside).unread;
+        at = u.at;
+        have = u.have;
+        if stops(u.step) {
+            return close(program, u.step, turns, block, at, have, out, report, to, aside);
+        }
+    }
+    close(program, Step::Next, turns, block, at, have, out, report, to, aside)
+}
+
+// The same with an output of its own; how the run ended. Internal.
+pub fn print<P: Program, R: Read, W: Write, V: Write>(
+    program: &mut P,
+    from: &mut R,
+    to: &mut W,
+    report: &mut [u8],
+    aside: &mut V,
+    block: &mut [u8],
+) -> Ending
+    requires ready { P.Ready program.old }
+    requires room { (P.channels.longest ≤ 65536) × (P.longest_record ≤ length block.old) }
+    requires tellable { Tellable P.reports 0 65536 report.old }
+    ensures { T (among run_statuses (status_of result)) }
+{
+    let mut out = [0u8; 65536];
+    run(program, block, &mut out, report, from, to, aside).ending
 }

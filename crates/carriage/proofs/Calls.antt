@@ -9,6 +9,7 @@ use borrow.Author.Tests.{le-ltb, lt-leb}
 use lib.Dec.{leb}
 use lib.ListN.{length}
 use lib.Seq.{length-sets}
+use Rattle.std.specs.Prelude.{Some}
 use Rattle.octets.proofs.Laws.{either}
 use Rattle.rtp.specs.Header.{sequence_in, payload_in}
 use Rattle.packets.specs.Packets.{longest_packet}
@@ -28,8 +29,7 @@ pub record Called (outer : List ℕ) (f : Found) (u : Result) : Type 0 where
   pub out : came_out u ≡ f.packets
   pub memory : length u.reader.bytes ≡ longest_packet
   pub part : part_of u.reader ≡ f.part
-  pub begun : u.reader.numbers.begun ≡ true
-  pub last : u.reader.numbers.last ≡ sequence_in outer
+  pub last : u.reader.numbers.last ≡ Some (sequence_in outer)
 
 module _ (r : Reader) (outer output : List ℕ) (memory : length r.bytes ≡ longest_packet) (long : shortest_output ≤ length output) (is : is_outer outer ≡ true) (new : is_repeat r.numbers (sequence_in outer) ≡ false) (inside : marked r outer output ≡ true → offset_in outer < length (payload_in outer)) where
   abbrev first : Bool
@@ -60,7 +60,6 @@ module _ (r : Reader) (outer output : List ℕ) (memory : length r.bytes ≡ lon
             ∙ ap (λ (k : Kept). k.packets) (stored-kept f.packets (found_carried r outer output taken));
         memory = length-sets r.bytes 0 f.part ∙ memory;
         part = part_held r outer output memory taken;
-        begun = refl;
         last = refl;
       }
 

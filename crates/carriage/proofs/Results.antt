@@ -11,8 +11,7 @@ use Rattle.packets.specs.Packets.{longest_packet, Carried}
 use Rattle.packets.specs.Stored.{stored, line}
 use Rattle.store.specs.Store.{Kept, kept_in}
 use Rattle.store.proofs.Laws.{stored-kept}
-use Rattle.tunnel.specs.declared.Unwrapped.{Unwrapped}
-use Rattle.tunnel.specs.Unwrap.{Reader, part_of, unwrapped_values, found, unchanged, dropped, read, unwrapped, Result}
+use Rattle.tunnel.specs.Unwrap.{Answer, Reader, part_of, unwrapped_values, found, unchanged, dropped, read, unwrapped, Result}
 use Rattle.tunnel.proofs.Found.{start-nothing}
 use Rattle.tunnel.proofs.Results as results
 use Rattle.carriage.specs.Fed.{came_out, Whole, Idle, Balanced}
@@ -30,7 +29,7 @@ module _ (r : Reader) (outer output : List ℕ) where
   unfolding stored flat_map
   none_stored u e = whole_some u [] tt (ap (λ (n : ℕ). take n u.output) e)
 
-  idle-stored : (a : Unwrapped) → results.Idle r outer output a → (unwrapped_values a).stored ≡ 0
+  idle-stored : (a : Answer) → results.Idle r outer output a → (unwrapped_values a).stored ≡ 0
   idle-stored a (inl e) = rw e refl
   idle-stored a (inr (inl e)) = rw e refl
   idle-stored a (inr (inr e)) = rw e refl
@@ -52,7 +51,7 @@ module _ (r : Reader) (outer output : List ℕ) where
   unfolding line flat_map
   line_none = refl
 
-  idle-idle : (a : Unwrapped) → results.Idle r outer output a → Idle (unchanged r outer output a)
+  idle-idle : (a : Answer) → results.Idle r outer output a → Idle (unchanged r outer output a)
   idle-idle a (inl e) = rw e (inr (inl refl))
   idle-idle a (inr (inl e)) = rw e (inr (inr refl))
   idle-idle a (inr (inr e)) = rw e (inl refl)

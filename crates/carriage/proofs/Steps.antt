@@ -10,6 +10,7 @@ use borrow.Author.Tests.{ltb-true, ne_eqb}
 use lib.Dec.{eqb}
 use lib.ListN.{length, drop, length-drop}
 use lib.Seq.{length-take-le}
+use Rattle.std.specs.Prelude.{Some}
 use Rattle.octets.specs.Each.{Each}
 use Rattle.octets.proofs.Laws.{either}
 use Rattle.rtp.specs.Header.{sequences, payload_in}
@@ -30,8 +31,7 @@ use Rattle.carriage.proofs.Calls.{called}
 pub record Holds (r : Reader) (n : ℕ) (held : List ℕ) : Type 0 where
   pub memory : length r.bytes ≡ longest_packet
   pub part : part_of r ≡ held
-  pub begun : r.numbers.begun ≡ true
-  pub last : r.numbers.last ≡ (n + (sequences - 1)) % sequences
+  pub last : r.numbers.last ≡ Some ((n + (sequences - 1)) % sequences)
 
 -- the n-th will be no repeat, and then this part will be kept
 pub record Ready (r : Reader) (n : ℕ) (held : List ℕ) : Type 0 where
@@ -41,11 +41,11 @@ pub record Ready (r : Reader) (n : ℕ) (held : List ℕ) : Type 0 where
 
 module _ {r : Reader} {n : ℕ} {held : List ℕ} (h : Holds r n held) (k : ℕ) (few : k + 1 < sequences) where
   new_after : is_repeat r.numbers ((n + k) % sequences) ≡ false
-  new_after = rw (h.begun, h.last) (ne_eqb ((n + k) % sequences) ((n + (sequences - 1)) % sequences) (λ e. omega arith))
+  new_after = rw h.last (ne_eqb ((n + (sequences - 1)) % sequences) ((n + k) % sequences) (λ e. omega arith))
 
   gap_after : gap_before r.numbers ((n + k) % sequences) ≡ k
   unfolding gap_before
-  gap_after = rw (h.begun, h.last) (omega arith)
+  gap_after = rw h.last (omega arith)
 
   -- some are left out
   pub ready_after : 1 ≤ k → Ready r (n + k) []
@@ -109,7 +109,6 @@ module _ (packets : List (List ℕ)) (sendable : Each Sendable packets) (s n at 
             record {
               memory = k.memory;
               part = k.part ∙ ap (λ (f : Found). f.part) found_is ∙ g.1;
-              begun = k.begun;
-              last = k.last ∙ seen.sequence ∙ omega arith;
+              last = k.last ∙ ap Some (seen.sequence ∙ omega arith);
             };
       }

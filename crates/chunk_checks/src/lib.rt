@@ -5,22 +5,25 @@ ghost use Rattle.std.specs.Prelude.{◌≡◌, ◌+◌, ◌*◌, ◌≤◌, ◌<
 ghost use Rattle.meaning.specs.Sizes.{longest_chunk};
 ghost use Rattle.meaning.specs.Reading.{checks, ensembles_checks};
 
-use meaning::{
-    CHUNK_HEADER_BYTES, Checked, ENSEMBLE_BYTES, LONGEST_CHUNK, Part, Refusal, SERVICE_BYTES,
-};
+use meaning::{CHUNK_HEADER_BYTES, ENSEMBLE_BYTES, LONGEST_CHUNK, Part, Refusal, SERVICE_BYTES};
 
 // The checks on count ensembles from a place of the chunk on, their extensions e and s bytes long. An ensemble of any version has this form.
-fn check_ensembles(chunk: &[u8], from: usize, e: usize, s: usize, count: usize) -> Checked
+fn check_ensembles(
+    chunk: &[u8],
+    from: usize,
+    e: usize,
+    s: usize,
+    count: usize,
+) -> Result<(), Refusal>
     requires { (from ≤ length chunk.now) × (length chunk.now ≤ longest_chunk) × (e < 8) × (s < 8) }
     ensures { result ≡ ensembles_checks e s count from (drop from chunk.now) }
 {
     let mut at = from;
-    let mut left = count;
-    while 0 < left {
+    for _ in 0..count {
         if chunk.len() - at < ENSEMBLE_BYTES + e {
             // its fields run past the end
             let start = at as u16;
-            return Checked::Fault(Refusal::EndsEarly {
+            return Err(Refusal::EndsEarly {
                 part: Part::EnsembleFields,
                 at: start,
             });
@@ -34,37 +37,36 @@ fn check_ensembles(chunk: &[u8], from: usize, e: usize, s: usize, count: usize) 
             // so many of its services fit, and the next runs past the end
             let fit = rest / width;
             let next = (inside + fit * width) as u16;
-            return Checked::Fault(Refusal::EndsEarly {
+            return Err(Refusal::EndsEarly {
                 part: Part::SingleService,
                 at: next,
             });
         }
         at = inside + room;
-        left -= 1;
     }
-    Checked::Fine
+    Ok(())
 }
 
 // The checks on a chunk, in document 01's order.
-pub fn check_chunk(chunk: &[u8]) -> Checked
+pub fn check_chunk(chunk: &[u8]) -> Result<(), Refusal>
     ensures { result ≡ checks chunk.now }
 {
     if LONGEST_CHUNK < chunk.len() {
-        return Checked::Fault(Refusal::TooLong);
+        return Err(Refusal::TooLong);
     }
     if chunk.len() < 2 {
-        return Checked::Fault(Refusal::EndsEarly {
+        return Err(Refusal::EndsEarly {
             part: Part::Header,
             at: 0,
         });
     }
     let first = chunk[0];
     if first / 64 != 0 {
-        return Checked::Fault(Refusal::OtherMajor);
+        return Err(Refusal::OtherMajor);
     }
     let h = (first % 8) as usize;
     if chunk.len() < CHUNK_HEADER_BYTES + h {
-        return Checked::Fault(Refusal::EndsEarly {
+        return Err(Refusal::EndsEarly {
             part: Part::Header,
             at: 0,
         });

@@ -92,7 +92,7 @@ pub fn put_chunk(listing: &[u8], kind: Kind, chunk: &mut [u8])
     let low = listing[3];
     let count = listing[4];
     chunk[0] = 0;
-    chunk[1] = 2 + meaning::current_of(kind);
+    chunk[1] = 2 + u8::from(kind);
     chunk[2] = high;
     chunk[3] = low;
     chunk[4] = count;

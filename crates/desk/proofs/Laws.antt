@@ -5,16 +5,15 @@ use mathlib.Core.List.{List, ◌++◌}
 use Prim.Native.Nat.{ℕ, ◌≤◌}
 use native.Mathlib.Omega.{arith}
 use lib.ListN.{length, take}
+use Rattle.std.proofs.Common.{Result, Ok, Err}
 use Rattle.octets.proofs.Laws.{either}
 use Rattle.meaning.specs.declared.Kind.{Kind}
 use Rattle.meaning.specs.declared.Kind.TheVariants.{This, Next}
 use Rattle.meaning.specs.declared.Refusal.{Refusal}
 use Rattle.meaning.specs.declared.Refusal.TheVariants.{ShortBuffer, BadDesk}
-use Rattle.meaning.specs.declared.Checked.TheVariants.{Fine, Fault}
 use Rattle.meaning.specs.Sizes.{longest_listing}
 use Rattle.slots.specs.declared.Slot.{Slot}
 use Rattle.slots.specs.declared.Answer.{Answer}
-use Rattle.slots.specs.declared.Answer.TheVariants.{Refused}
 use Rattle.segments.specs.Segment.{segment_kind, segment_checks}
 use Rattle.slots.specs.Slots.{no_bytes, slot_fits}
 use Rattle.slots.specs.Gathering.{side, Outcome, outcome, gathered}
@@ -78,7 +77,7 @@ lent_after true o first second first' second' e f = (e, f)
 lent_after false o first second first' second' e f = (f, e)
 
 module _ (k : Kind) (d : Desk) (xs first second : List ℕ) where
-  pub steered : (s : Slot) (one : Bool) {a : Answer} {t : Slot} {m : Notes} {part back bytes first' second' : List ℕ} → s ≡ slot_for k d.notes → part ≡ bytes_for k d → one ≡ first_serves k d.notes.swapped → outcome a (side t back (cond one first' second')) ≡ gathered k xs (side s part (cond one first second)) → cond one second' first' ≡ cond one second first → m ≡ notes_with k d.notes t a → bytes ≡ bytes_with k d back → after a (desk m bytes) first' second' ≡ taken_by k d xs first second
+  pub steered : (s : Slot) (one : Bool) {a : Result Answer Refusal} {t : Slot} {m : Notes} {part back bytes first' second' : List ℕ} → s ≡ slot_for k d.notes → part ≡ bytes_for k d → one ≡ first_serves k d.notes.swapped → outcome a (side t back (cond one first' second')) ≡ gathered k xs (side s part (cond one first second)) → cond one second' first' ≡ cond one second first → m ≡ notes_with k d.notes t a → bytes ≡ bytes_with k d back → after a (desk m bytes) first' second' ≡ taken_by k d xs first second
   unfolding taken_by
   steered s one {a} {t} {m} {part} {back} {bytes} {first'} {second'} s-is part-is one-is e other m-is bytes-is =
       let mine = first_serves k d.notes.swapped in
@@ -95,19 +94,19 @@ opposite {t} {u} e = ap not e ∙ not-not u
 -- ---- a segment: 12, 1, its own checks, or taken
 
 module _ (d : Desk) (xs first second : List ℕ) where
-  pub taken_unfit : well_formed d ≡ false → after (Refused BadDesk) d first second ≡ segment_after d xs first second
+  pub taken_unfit : well_formed d ≡ false → after (Err BadDesk) d first second ≡ segment_after d xs first second
   unfolding segment_after
   taken_unfit e = simp e
 
-  pub taken_short : well_formed d ≡ true → (too_short first || too_short second) ≡ true → after (Refused ShortBuffer) d first second ≡ segment_after d xs first second
+  pub taken_short : well_formed d ≡ true → (too_short first || too_short second) ≡ true → after (Err ShortBuffer) d first second ≡ segment_after d xs first second
   unfolding segment_after
   taken_short fit e = simp (fit, e)
 
   module _ (y : Ready d first second) where
-    pub taken_refused : {f : Refusal} → segment_checks xs ≡ Fault f → after (Refused f) d first second ≡ segment_after d xs first second
+    pub taken_refused : {f : Refusal} → segment_checks xs ≡ Err f → after (Err f) d first second ≡ segment_after d xs first second
     taken_refused e = rw (ready_answered d xs first second y, e)
 
-    pub taken_steered : {k : Kind} {r : After} → segment_checks xs ≡ Fine → k ≡ segment_kind xs → r ≡ taken_by k d xs first second → r ≡ segment_after d xs first second
+    pub taken_steered : {k : Kind} {r : After} → segment_checks xs ≡ Ok tt → k ≡ segment_kind xs → r ≡ taken_by k d xs first second → r ≡ segment_after d xs first second
     taken_steered fine is e = e ∙ rw (ready_answered d xs first second y, fine, sym is)
 
 -- ---- show

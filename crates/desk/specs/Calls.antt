@@ -1,5 +1,6 @@
 -- Calls of a desk one after the other, on two memories that nobody else writes to, and what each is told.
-use Rattle.std.specs.Prelude.{ℕ, ◌≤◌, ◌≡◌, true, List, [], ◌∷◌, ◌++◌, length, take, drop}
+use Rattle.std.specs.Prelude.{ℕ, ◌≤◌, ◌≡◌, true, List, [], ◌∷◌, ◌++◌, length, take, drop, Result, Ok}
+use Rattle.meaning.specs.declared.Refusal.{Refusal}
 use Rattle.meaning.specs.declared.Kind.{Kind}
 use Rattle.meaning.specs.declared.Kind.TheVariants.{This}
 use Rattle.meaning.specs.Sizes.{longest_listing}
@@ -69,7 +70,7 @@ next_frame s = left_by segment_after s frame
 pub data Told : Type 0 where
   framed : List ℕ → Told
   begun : Told
-  answered : Answer → List ℕ → Told
+  answered : Result Answer Refusal → List ℕ → Told
 
 abbrev pub told_by : SegmentCall → State → Call → Told
 told_by call s frame = framed (shown_in This (left_by call s frame))
@@ -91,7 +92,7 @@ abbrev pub ran : State → List Call → Ran
 ran = ran_by segment_after
 
 -- of what is told, the answers to segments
-abbrev pub answers_of : List Told → List Answer
+abbrev pub answers_of : List Told → List (Result Answer Refusal)
 answers_of [] = []
 answers_of (framed l ∷ more) = answers_of more
 answers_of (begun ∷ more) = answers_of more
@@ -106,5 +107,5 @@ InFrame gathering = Unit {0}
 InFrame (segment c) = Unit {0}
 
 -- the answer is no list of the kind k
-abbrev pub Lacks : Kind → Answer → Type 0
-Lacks k a = (n : ℕ) → a ≡ NewList k n → ⊥
+abbrev pub Lacks : Kind → Result Answer Refusal → Type 0
+Lacks k a = (n : ℕ) → a ≡ Ok (NewList k n) → ⊥

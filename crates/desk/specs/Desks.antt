@@ -1,15 +1,13 @@
 -- Document 01, "The desk": what is well formed, and what each call answers and leaves.
-use Rattle.std.specs.Prelude.{ℕ, Bool, false, cond, not, ◌&&◌, ◌||◌, List, ◌++◌, take, drop}
+use Rattle.std.specs.Prelude.{ℕ, Bool, false, cond, not, ◌&&◌, ◌||◌, List, ◌++◌, take, drop, Result, Ok, Err}
 use Rattle.octets.specs.Checks.{check}
+use Rattle.meaning.specs.declared.Refusal.{Refusal}
 use Rattle.meaning.specs.declared.Kind.{Kind}
 use Rattle.meaning.specs.declared.Kind.TheVariants.{This, Next}
 use Rattle.meaning.specs.declared.Refusal.TheVariants.{ShortBuffer, BadDesk}
-use Rattle.meaning.specs.declared.Checked.{Checked}
-use Rattle.meaning.specs.declared.Checked.TheVariants.{Fine, Fault}
 use Rattle.meaning.specs.Sizes.{longest_chunk}
 use Rattle.segments.specs.Segment.{segment_kind, segment_checks}
 use Rattle.slots.specs.declared.Answer.{Answer}
-use Rattle.slots.specs.declared.Answer.TheVariants.{Refused}
 use Rattle.slots.specs.Slots.{no_bytes, slot_fits}
 use Rattle.slots.specs.Gathering.{Side, side, Outcome, gathered}
 use Rattle.notes.specs.declared.Notes.{Notes}
@@ -51,12 +49,12 @@ new_frame d = cond (well_formed d) (emptied d.notes.coming 0 (not d.notes.swappe
 
 -- an answer, the desk and both buffers afterwards
 pub record After : Type 0 where
-  pub answer : Answer
+  pub answer : Result Answer Refusal
   pub desk : Desk
   pub first : List ℕ
   pub second : List ℕ
 
-abbrev pub after : Answer → Desk → List ℕ → List ℕ → After
+abbrev pub after : Result Answer Refusal → Desk → List ℕ → List ℕ → After
 after a d first second = record { answer = a; desk = d; first = first; second = second }
 
 -- what a segment of the kind k may read and alter besides: that kind's slot, and its buffer
@@ -79,16 +77,16 @@ taken_by k d xs first second =
     after o.answer (altered k d o) (cond mine o.side.buffer first) (cond mine second o.side.buffer)
 
 -- 12, 1, then the checks on the segment itself
-abbrev pub call_checks : Desk → List ℕ → List ℕ → List ℕ → Checked
+abbrev pub call_checks : Desk → List ℕ → List ℕ → List ℕ → Result Unit Refusal
 call_checks d xs first second =
-    check (not (well_formed d)) (Fault BadDesk)  -- 12
-    (check (too_short first || too_short second) (Fault ShortBuffer)  -- 1
+    check (not (well_formed d)) (Err BadDesk)  -- 12
+    (check (too_short first || too_short second) (Err ShortBuffer)  -- 1
     (segment_checks xs))
 
 -- a refusal by these leaves all as it was
-abbrev pub answered_by : Checked → Desk → List ℕ → List ℕ → List ℕ → After
-answered_by (Fault f) d xs first second = after (Refused f) d first second
-answered_by Fine d xs first second = taken_by (segment_kind xs) d xs first second
+abbrev pub answered_by : Result Unit Refusal → Desk → List ℕ → List ℕ → List ℕ → After
+answered_by (Err f) d xs first second = after (Err f) d first second
+answered_by (Ok _) d xs first second = taken_by (segment_kind xs) d xs first second
 
 unfoldable pub segment_after : Desk → List ℕ → List ℕ → List ℕ → After
 segment_after d xs first second = answered_by (call_checks d xs first second) d xs first second

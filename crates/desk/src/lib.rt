@@ -1,14 +1,14 @@
 // The desk: a slot for each kind, the lengths of the two listings, and which of the two lent buffers serves this frame.
 #![tactic(auto)]
 
-ghost use Rattle.std.specs.Prelude.{◌≡◌, true, ◌++◌, ◌+◌, ◌≤◌, length};
+ghost use Rattle.std.specs.Prelude.{◌≡◌, true, ◌++◌, ◌+◌, ◌≤◌, length, Ok};
 ghost use Rattle.meaning.specs.Sizes.{longest_chunk, longest_listing};
 ghost use Rattle.segments.specs.Segment.{segment_checks};
 ghost use Rattle.slots.specs.Slots.{no_bytes};
 ghost use Rattle.notes.specs.Notes.{lent_for};
 ghost use Rattle.desk.specs.Desks.{desk as Desks·desk, fresh as Desks·fresh, well_formed, new_gathering, new_frame, after, taken_by, segment_after, shown_length, shown as Desks·shown};
 
-use meaning::{Checked, Kind, LONGEST_CHUNK, Refusal};
+use meaning::{Kind, LONGEST_CHUNK, Refusal};
 use notes::Notes;
 use slots::Answer;
 
@@ -24,14 +24,14 @@ pub const BYTES: usize = 2 * LONGEST_CHUNK;
 // An answer to a segment, with the desk afterwards.
 #[derive(Clone, Copy)]
 pub struct Taken {
-    pub answer: Answer,
+    pub answer: Result<Answer, Refusal>,
     pub desk: Desk,
 }
 
 // The same, with the desk's numbers only: its bytes were changed in place.
 #[derive(Clone, Copy)]
 pub struct Driven {
-    pub answer: Answer,
+    pub answer: Result<Answer, Refusal>,
     pub notes: Notes,
 }
 
@@ -74,7 +74,7 @@ fn steer(
     first: &mut [u8],
     second: &mut [u8],
 ) -> Driven
-    requires { (well_formed (Desks·desk notes bytes.old) ≡ true) × (segment_checks seg.now ≡ Checked.Fine) × (longest_listing ≤ length first.old) × (longest_listing ≤ length second.old) }
+    requires { (well_formed (Desks·desk notes bytes.old) ≡ true) × (segment_checks seg.now ≡ Ok tt) × (longest_listing ≤ length first.old) × (longest_listing ≤ length second.old) }
     ensures { after result.answer (Desks·desk result.notes bytes.new) first.new second.new ≡ taken_by kind (Desks·desk notes bytes.old) seg.now first.old second.old }
 {
     let slot = notes::own(kind, notes);
@@ -92,7 +92,7 @@ fn steer(
     let answer = g.answer;
     let became = g.slot;
     Driven {
-        answer: answer,
+        answer,
         notes: notes::with_slot(notes, kind, became, answer),
     }
 }
@@ -110,12 +110,12 @@ pub fn drive(
     ensures { after result.answer (Desks·desk result.notes bytes.new) first.new second.new ≡ segment_after (Desks·desk notes bytes.old) seg.now first.old second.old }
 {
     match segments::check_segment(seg) {
-        Checked::Fault(refusal) => Driven {
-            answer: Answer::Refused(refusal),
-            notes: notes,
+        Err(refusal) => Driven {
+            answer: Err(refusal),
+            notes,
         },
-        Checked::Fine => {
-            let kind = meaning::kind_of(seg[0] / 2 % 2);
+        Ok(_) => {
+            let kind = Kind::from(seg[0] / 2 % 2);
             steer(kind, notes, bytes, seg, first, second)
         }
     }
@@ -178,13 +178,13 @@ impl Desk {
         let long = notes::roomy(first, second);
         if !formed {
             return Taken {
-                answer: Answer::Refused(Refusal::BadDesk),
+                answer: Err(Refusal::BadDesk),
                 desk: self,
             };
         }
         if !long {
             return Taken {
-                answer: Answer::Refused(Refusal::ShortBuffer),
+                answer: Err(Refusal::ShortBuffer),
                 desk: self,
             };
         }
@@ -194,11 +194,8 @@ impl Desk {
         let answer = driven.answer;
         let left = driven.notes;
         Taken {
-            answer: answer,
-            desk: Desk {
-                notes: left,
-                bytes: bytes,
-            },
+            answer,
+            desk: Desk { notes: left, bytes },
         }
     }
 

@@ -1,7 +1,7 @@
 // A desk with two buffers for it. Each call on the desk prints a line: its name, the answer to a segment, what is shown afterwards for this
 // frame and for the next, and up to where each buffer is not as it was at first.
 use desk::Desk;
-use meaning::Kind;
+use meaning::{Kind, Refusal};
 use slots::Answer;
 use std::io::Write;
 
@@ -38,19 +38,19 @@ fn changed(bytes: &[u8]) -> usize {
     end
 }
 
-fn say_answer<W: Write>(to: &mut W, answer: Answer) {
+fn say_answer<W: Write>(to: &mut W, answer: Result<Answer, Refusal>) {
     tell::say(to, b":");
     match answer {
-        Answer::Missing(left) => {
+        Ok(Answer::Missing(left)) => {
             tell::say(to, b" missing");
             tell::say_number(to, left as u64);
         }
-        Answer::NewList { kind, length } => {
+        Ok(Answer::NewList { kind, length }) => {
             tell::say(to, b" list");
             tell::say_kind(to, kind);
             tell::say_number(to, length as u64);
         }
-        Answer::Refused(refusal) => tell::say_refusal(to, refusal),
+        Err(refusal) => tell::say_refusal(to, refusal),
     }
 }
 

@@ -7,13 +7,13 @@ use native.Mathlib.Omega.{arith}
 use borrow.Author.Tests.{eqb-true, not-false}
 use lib.ListN.{length, get_or, take, drop, length-drop}
 use lib.Seq.{sets, sets-eq}
+use Rattle.std.proofs.Common.{Result, Ok, Err}
 use Rattle.octets.specs.Bits.{Bytes}
 use Rattle.octets.proofs.Laws.{bytes_take, bytes_drop, bytes-append}
+use Rattle.meaning.specs.declared.Refusal.{Refusal}
 use Rattle.meaning.specs.declared.Kind.{Kind}
 use Rattle.meaning.specs.declared.Kind.TheVariants.{This, Next}
 use Rattle.meaning.specs.declared.Refusal.TheVariants.{KindDiffers}
-use Rattle.meaning.specs.declared.Checked.{Checked}
-use Rattle.meaning.specs.declared.Checked.TheVariants.{Fine, Fault}
 use Rattle.meaning.specs.Sizes.{longest_chunk}
 use Rattle.meaning.specs.Lists.{kind_of, current_of}
 use Rattle.meaning.specs.Reading.{checks, minor_in, list_in, Accepts}
@@ -21,7 +21,7 @@ use Rattle.meaning.proofs.Checks.{check_passed}
 use Rattle.meaning.proofs.Sound.{accepted-carried}
 use Rattle.segments.specs.Segment.{segment_header_bytes, payload_bytes, most_segments, segment_kind, segment_checks, number_in, payload_in}
 use Rattle.slots.specs.declared.Answer.{Answer}
-use Rattle.slots.specs.declared.Answer.TheVariants.{Missing, NewList, Refused}
+use Rattle.slots.specs.declared.Answer.TheVariants.{Missing, NewList}
 use Rattle.slots.specs.Slots.{missing_in}
 use Rattle.slots.specs.Gathering.{Side, hold, chunk_in, kind_checks}
 use Rattle.slots.proofs.Keeps.{segment-passes, number_small, slot-numbers}
@@ -35,10 +35,10 @@ use Rattle.effects.specs.Effects.{Lists, Waits}
 use Rattle.effects.proofs.Ways.{own, Takes, takes, unlisted_becomes, segment_cases}
 use Rattle.effects.proofs.Keeps.{segment-fits}
 
-abbrev refused : Answer → Bool
-refused (Refused f) = true
-refused (Missing n) = false
-refused (NewList k n) = false
+abbrev refused : Result Answer Refusal → Bool
+refused (Err f) = true
+refused (Ok (Missing n)) = false
+refused (Ok (NewList k n)) = false
 
 -- ---- bytes
 
@@ -57,13 +57,13 @@ kind-current : (k : Kind) → kind_of (current_of k) ≡ k
 kind-current This = refl
 kind-current Next = refl
 
-kind_accepts : (k : Kind) (xs : List ℕ) → kind_checks (checks xs) k xs ≡ Fine → Accepts xs k (minor_in xs) (list_in xs)
+kind_accepts : (k : Kind) (xs : List ℕ) → kind_checks (checks xs) k xs ≡ Ok tt → Accepts xs k (minor_in xs) (list_in xs)
 kind_accepts k xs = go (checks xs) refl
   where
-    go : (v : Checked) → checks xs ≡ v → kind_checks v k xs ≡ Fine → Accepts xs k (minor_in xs) (list_in xs)
-    go (Fault f) is e = let z : ◌≡◌ {A = ℕ} 0 1 = cc in absurd (omega arith)
-    go Fine is e =
-        let current : get_or xs 1 0 % 2 ≡ current_of k = eqb-true _ _ (not-false _ (check_passed _ KindDiffers Fine e).0) in
+    go : (v : Result Unit Refusal) → checks xs ≡ v → kind_checks v k xs ≡ Ok tt → Accepts xs k (minor_in xs) (list_in xs)
+    go (Err f) is e = let z : ◌≡◌ {A = ℕ} 0 1 = cc in absurd (omega arith)
+    go (Ok _) is e =
+        let current : get_or xs 1 0 % 2 ≡ current_of k = eqb-true _ _ (not-false _ (check_passed _ KindDiffers (Ok tt) e).0) in
         record { passes = is; kind = ap kind_of current ∙ kind-current k; minor = refl; list = refl }
 
 -- ---- a segment
@@ -76,25 +76,25 @@ module _ (d : Desk) (xs first second : List ℕ) where
   before = own k d first second
 
   -- what an answer comes to
-  abbrev Comes : After → Answer → Type 0
-  Comes r (Missing n) = Waits d xs first second n r
-  Comes r (NewList j n) = Bytes d.bytes → Bytes xs → Lists d xs first second j n r
-  Comes r (Refused f) = Unit {0}
+  abbrev Comes : After → Result Answer Refusal → Type 0
+  Comes r (Ok (Missing n)) = Waits d xs first second n r
+  Comes r (Ok (NewList j n)) = Bytes d.bytes → Bytes xs → Lists d xs first second j n r
+  Comes r (Err f) = Unit {0}
 
-  pub bytes-chunk : Ready d first second → segment_checks xs ≡ Fine → Bytes d.bytes → Bytes xs → Bytes (chunk_in (hold xs before))
+  pub bytes-chunk : Ready d first second → segment_checks xs ≡ Ok tt → Bytes d.bytes → Bytes xs → Bytes (chunk_in (hold xs before))
   bytes-chunk y fine b v =
       let room : payload_bytes * number_in xs + length (payload_in xs) ≤ length (bytes_for k d) =
       omega (arith, number_small xs fine, segment-passes xs fine, length-drop segment_header_bytes xs, (slot-numbers _ _ (kind_fits k d y.formed).1).0) in
       bytes_take (payload_bytes * ((hold xs before).slot.last + 1)) (hold xs before).bytes
       (bytes-sets (bytes_for k d) (payload_in xs) (payload_bytes * number_in xs) room (bytes-kind k d b) (bytes_drop segment_header_bytes xs v))
 
-  module _ {r : After} {n : ℕ} {s : Side} (t : Takes k d first second (record { answer = Missing n; side = s }) r) where
+  module _ {r : After} {n : ℕ} {s : Side} (t : Takes k d first second (record { answer = Ok (Missing n); side = s }) r) where
     waits : n ≡ missing_in s.slot → s.buffer ≡ before.buffer → Waits d xs first second n r
     waits e same =
         let b = unlisted_becomes t (λ m. refl) same in
         record { count = e ∙ ap missing_in (sym t.slot); kept = b.2; buffers = (b.3, b.4) }
 
-  taken_comes : Ready d first second → segment_checks xs ≡ Fine → let r = taken_by k d xs first second in Comes r r.answer
+  taken_comes : Ready d first second → segment_checks xs ≡ Ok tt → let r = taken_by k d xs first second in Comes r r.answer
   taken_comes y fine =
       let r = taken_by k d xs first second in
       let h = takes k d xs first second y.formed fine in
@@ -122,17 +122,17 @@ module _ (d : Desk) (xs first second : List ℕ) where
   segment_comes : let r = segment_after d xs first second in Comes r r.answer
   segment_comes = segment_cases d xs first second (λ r. Comes r r.answer) (λ f e. tt) taken_comes
 
-  pub listed_lists : Bytes d.bytes → Bytes xs → (j : Kind) (n : ℕ) → let r = segment_after d xs first second in r.answer ≡ NewList j n → Lists d xs first second j n r
+  pub listed_lists : Bytes d.bytes → Bytes xs → (j : Kind) (n : ℕ) → let r = segment_after d xs first second in r.answer ≡ Ok (NewList j n) → Lists d xs first second j n r
   listed_lists b v j n e = subst (Comes (segment_after d xs first second)) e segment_comes b v
 
-  pub missing_waits : (n : ℕ) → let r = segment_after d xs first second in r.answer ≡ Missing n → Waits d xs first second n r
+  pub missing_waits : (n : ℕ) → let r = segment_after d xs first second in r.answer ≡ Ok (Missing n) → Waits d xs first second n r
   missing_waits n e = subst (Comes (segment_after d xs first second)) e segment_comes
 
 -- no more than 16 are missing
-module _ (d : Desk) (xs first second : List ℕ) (n : ℕ) (is : (segment_after d xs first second).answer ≡ Missing n) where
+module _ (d : Desk) (xs first second : List ℕ) (n : ℕ) (is : (segment_after d xs first second).answer ≡ Ok (Missing n)) where
   missing_formed : well_formed d ≡ true
   missing_formed =
-      segment_cases d xs first second (λ r. r.answer ≡ Missing n → well_formed d ≡ true)
+      segment_cases d xs first second (λ r. r.answer ≡ Ok (Missing n) → well_formed d ≡ true)
       (λ f e l. absurd (true≢false (ap refused l))) (λ y fine l. y.formed) is
 
   pub missing_few : n ≤ most_segments

@@ -5,16 +5,15 @@ use mathlib.Core.List.{List}
 use Prim.Native.Nat.{ℕ}
 use lib.Dec.{eqb, ltb}
 use lib.ListN.{length}
+use Rattle.std.proofs.Common.{Result, Ok, Err}
 use Rattle.octets.specs.Checks.{check}
+use Rattle.meaning.specs.declared.Refusal.{Refusal}
 use Rattle.meaning.specs.declared.Kind.{Kind}
 use Rattle.meaning.specs.declared.Refusal.TheVariants.{ShortBuffer, BadDesk}
-use Rattle.meaning.specs.declared.Checked.{Checked}
-use Rattle.meaning.specs.declared.Checked.TheVariants.{Fine, Fault}
 use Rattle.meaning.specs.Sizes.{longest_listing}
 use Rattle.meaning.specs.Reading.{checks}
 use Rattle.slots.specs.declared.Slot.{Slot}
 use Rattle.slots.specs.declared.Answer.{Answer}
-use Rattle.slots.specs.declared.Answer.TheVariants.{Refused}
 use Rattle.segments.specs.Segment.{segment_kind, segment_checks, number_in}
 use Rattle.octets.specs.Sets.{holds}
 use Rattle.slots.specs.Slots.{missing_in, clashing, holding}
@@ -38,7 +37,7 @@ other-kept d xs first second =
 
 -- an answer, the slot and its bytes: of what a segment does there, and of what the desk then has for the kind k
 abbrev Found : Type 0
-Found = Answer × Slot × List ℕ
+Found = Result Answer Refusal × Slot × List ℕ
 
 abbrev found : Outcome → Found
 found o = (o.answer, o.side.slot, o.side.bytes)
@@ -47,9 +46,9 @@ abbrev found_for : Kind → After → Found
 found_for k r = (r.answer, slot_for k r.desk.notes, bytes_for k r.desk)
 
 module _ (k : Kind) (b c : List ℕ) where
-  judged-apart : (v : Checked) (s : Slot) (bytes : List ℕ) → found (judged v k (side s bytes b)) ≡ found (judged v k (side s bytes c))
-  judged-apart (Fault f) s bytes = refl
-  judged-apart Fine s bytes = refl
+  judged-apart : (v : Result Unit Refusal) (s : Slot) (bytes : List ℕ) → found (judged v k (side s bytes b)) ≡ found (judged v k (side s bytes c))
+  judged-apart (Err f) s bytes = refl
+  judged-apart (Ok _) s bytes = refl
 
   placed-apart : (s : Slot) (bytes : List ℕ) → found (placed k (side s bytes b)) ≡ found (placed k (side s bytes c))
   unfolding completed
@@ -72,10 +71,10 @@ unfolding segment_after
 own_only d e xs first second first' second' wd we slot bytes one two =
     let k : Kind = segment_kind xs in
     let checked : call_checks d xs first second ≡ call_checks e xs first' second' =
-    λ i. check (not ((wd ∙ sym we) i)) (Fault BadDesk) (check (ltb (one i) longest_listing || ltb (two i) longest_listing) (Fault ShortBuffer) (segment_checks xs)) in
+    λ i. check (not ((wd ∙ sym we) i)) (Err BadDesk) (check (ltb (one i) longest_listing || ltb (two i) longest_listing) (Err ShortBuffer) (segment_checks xs)) in
     let all : found_for k (segment_after d xs first second) ≡ found_for k (segment_after e xs first' second') =
     segment_cases d xs first second (λ r. found_for k r ≡ found_for k (segment_after e xs first' second'))
-    (λ f c. (λ i. (Refused f, slot i, bytes i)) ∙ ap (λ (v : Checked). found_for k (answered_by v e xs first' second')) (sym c ∙ checked))
+    (λ f c. (λ i. (Err f, slot i, bytes i)) ∙ ap (λ (v : Result Unit Refusal). found_for k (answered_by v e xs first' second')) (sym c ∙ checked))
     (λ y fine.
     takes_found (takes k d xs first second y.formed fine)
     ∙ (λ i. found (gathered k xs (side (slot i) (bytes i) (own k d first second).buffer)))

@@ -6,14 +6,15 @@ use mathlib.Core.Logic.{◌⊎◌, inl, inr}
 use Prim.Native.Nat.{ℕ}
 use lib.ListN.{length, take}
 use lib.Seq.{length_front, take-length, drop-length}
+use Rattle.std.proofs.Common.{Result, Ok, Err}
 use Rattle.octets.specs.Each.{Each}
 use Rattle.octets.proofs.Laws.{either}
+use Rattle.meaning.specs.declared.Refusal.{Refusal}
 use Rattle.meaning.specs.declared.Kind.{Kind}
 use Rattle.meaning.specs.declared.Kind.TheVariants.{This, Next}
-use Rattle.meaning.specs.declared.Checked.TheVariants.{Fine}
 use Rattle.segments.specs.Segment.{segment_kind, segment_checks}
 use Rattle.slots.specs.declared.Answer.{Answer}
-use Rattle.slots.specs.declared.Answer.TheVariants.{Missing, NewList, Refused}
+use Rattle.slots.specs.declared.Answer.TheVariants.{Missing, NewList}
 use Rattle.notes.specs.Notes.{length_for, other_kind, length_after}
 use Rattle.desk.specs.declared.Desk.{Desk}
 use Rattle.desk.specs.Desks.{well_formed, new_gathering, new_frame, After, after, taken_by, segment_after}
@@ -30,10 +31,10 @@ one_or_other This Next = inr refl
 one_or_other Next This = inr refl
 one_or_other Next Next = inl refl
 
-length-kept : (k : Kind) (a : Answer) (n : ℕ) → Says k a → Lacks k a → length_after a n ≡ n
-length-kept k (Missing m) n s l = refl
-length-kept k (NewList j m) n s l = absurd (l m (ap (λ (i : Kind). NewList i m) s.0))
-length-kept k (Refused f) n s l = refl
+length-kept : (k : Kind) (a : Result Answer Refusal) (n : ℕ) → Says k a → Lacks k a → length_after a n ≡ n
+length-kept k (Ok (Missing m)) n s l = refl
+length-kept k (Ok (NewList j m)) n s l = absurd (l m (ap (λ (i : Kind). Ok (NewList i m)) s.0))
+length-kept k (Err f) n s l = refl
 
 module _ (d : Desk) (xs first second : List ℕ) where
   abbrev own : Kind
@@ -43,13 +44,13 @@ module _ (d : Desk) (xs first second : List ℕ) where
   r = taken_by own d xs first second
 
   -- what comes to its slot and lists nothing of a kind keeps the length of that kind's listing
-  taken_kept : Ready d first second → segment_checks xs ≡ Fine → (k : Kind) → (k ≡ own) ⊎ (k ≡ other_kind own) → Lacks k r.answer → length_for k r.desk.notes ≡ length_for k d.notes
+  taken_kept : Ready d first second → segment_checks xs ≡ Ok tt → (k : Kind) → (k ≡ own) ⊎ (k ≡ other_kind own) → Lacks k r.answer → length_for k r.desk.notes ≡ length_for k d.notes
   taken_kept y fine k (inl e) l =
       let n : ℕ = length_for own d.notes in
       let h = takes own d xs first second y.formed fine in
       let none : Lacks own r.answer = subst (λ (j : Kind). Lacks j r.answer) e l in
       rw e
-      (h.size ∙ ap (λ (a : Answer). length_after a n) (sym h.answer) ∙ length-kept own r.answer n (taken_says d xs first second y fine) none)
+      (h.size ∙ ap (λ (a : Result Answer Refusal). length_after a n) (sym h.answer) ∙ length-kept own r.answer n (taken_says d xs first second y fine) none)
   taken_kept y fine k (inr e) l = rw e (takes own d xs first second y.formed fine).other.2
 
   pub unlisted_kept : (k : Kind) → let r = segment_after d xs first second in Lacks k r.answer → length_for k r.desk.notes ≡ length_for k d.notes

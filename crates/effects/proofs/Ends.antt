@@ -8,14 +8,13 @@ use native.Mathlib.Omega.{arith}
 use borrow.Author.Tests.{eqb-true, eqb-false}
 use lib.Dec.{eqb}
 use lib.ListN.{length, get_or}
+use Rattle.std.proofs.Common.{Result, Ok, Err}
 use Rattle.octets.specs.Bits.{Bytes}
 use Rattle.octets.proofs.Laws.{check_follows, either}
 use Rattle.meaning.specs.declared.Kind.{Kind}
 use Rattle.meaning.specs.declared.Part.{Part}
 use Rattle.meaning.specs.declared.Refusal.{Refusal}
 use Rattle.meaning.specs.declared.Refusal.TheVariants.{EndsEarly, KindDiffers}
-use Rattle.meaning.specs.declared.Checked.{Checked}
-use Rattle.meaning.specs.declared.Checked.TheVariants.{Fine, Fault}
 use Rattle.meaning.specs.Sizes.{longest_chunk}
 use Rattle.meaning.specs.Numbers.{number_of, offset_of, checked_number}
 use Rattle.meaning.specs.Lists.{current_of}
@@ -25,7 +24,6 @@ use Rattle.meaning.proofs.Checks.{fault≢fine}
 use Rattle.meaning.proofs.Gives.{no_offset}
 use Rattle.meaning.proofs.Ends.{told_ends, told_within, told_small}
 use Rattle.segments.specs.Segment.{segment_kind}
-use Rattle.slots.specs.declared.Answer.TheVariants.{Refused}
 use Rattle.slots.specs.Gathering.{chunk_in, kind_checks}
 use Rattle.desk.specs.declared.Desk.{Desk}
 use Rattle.desk.specs.Desks.{After, segment_after}
@@ -35,16 +33,16 @@ use Rattle.effects.proofs.Accepted.{bytes-chunk}
 use Rattle.effects.proofs.Refusals.{of_each, refusal_leaves, early_number, early_numbers}
 
 -- a refusal that is not 10 is the reader's
-chunk_told : (v : Checked) (k : Kind) (xs : List ℕ) (f : Refusal) → (number_of f ≡ 10 → ⊥) → kind_checks v k xs ≡ Fault f → v ≡ Fault f
-chunk_told (Fault g) k xs f other is = is
-chunk_told Fine k xs f other is =
-    absurd (fault≢fine (sym (check_follows (not (eqb (get_or xs 1 0 % 2) (current_of k))) {answer = Fault KindDiffers} {rest = Fine} (λ same. other (sym (ap checked_number same))) is).1))
+chunk_told : (v : Result Unit Refusal) (k : Kind) (xs : List ℕ) (f : Refusal) → (number_of f ≡ 10 → ⊥) → kind_checks v k xs ≡ Err f → v ≡ Err f
+chunk_told (Err g) k xs f other is = is
+chunk_told (Ok _) k xs f other is =
+    absurd (fault≢fine (sym (check_follows (not (eqb (get_or xs 1 0 % 2) (current_of k))) {answer = Err KindDiffers} {rest = Ok tt} (λ same. other (sym (ap checked_number same))) is).1))
 
 module _ (d : Desk) (xs first second : List ℕ) where
   abbrev chunk : List ℕ
   chunk = chunk_in (slot_holding d xs)
 
-  pub refusal_ends : Bytes d.bytes → Bytes xs → (p : Part) (at : ℕ) → (segment_after d xs first second).answer ≡ Refused (EndsEarly p at) → EndsIn chunk p at
+  pub refusal_ends : Bytes d.bytes → Bytes xs → (p : Part) (at : ℕ) → (segment_after d xs first second).answer ≡ Err (EndsEarly p at) → EndsIn chunk p at
   refusal_ends b v p at e = go (refusal_leaves d xs first second (EndsEarly p at) e)
     where
       go : {r : After} → Leaves (EndsEarly p at) d xs first second r → EndsIn chunk p at
@@ -55,7 +53,7 @@ module _ (d : Desk) (xs first second : List ℕ) where
           told_ends (bytes-chunk d xs first second y.0 y.1 b v) (chunk_told (checks chunk) (segment_kind xs) chunk (EndsEarly p at) (λ ten. omega (arith, ten)) refused)
 
   -- so much as the reader's offsets for the chunk are within, the segment's is
-  offset-within : (m : ℕ) (f : Refusal) → (checks chunk ≡ Fault f → offset_of f ≤ m) → (segment_after d xs first second).answer ≡ Refused f → offset_of f ≤ m
+  offset-within : (m : ℕ) (f : Refusal) → (checks chunk ≡ Err f → offset_of f ≤ m) → (segment_after d xs first second).answer ≡ Err f → offset_of f ≤ m
   offset-within m f reads e = go (refusal_leaves d xs first second f e)
     where
       none : (number_of f ≡ 9 → ⊥) → offset_of f ≤ m
@@ -69,8 +67,8 @@ module _ (d : Desk) (xs first second : List ℕ) where
           (λ q. none (λ nine. omega (arith, eqb-true (number_of f) 10 q)))
           (λ q. reads (chunk_told (checks chunk) (segment_kind xs) chunk f (eqb-false (number_of f) 10 q) refused))
 
-  pub refusal_within : (f : Refusal) → (segment_after d xs first second).answer ≡ Refused f → offset_of f ≤ length chunk
+  pub refusal_within : (f : Refusal) → (segment_after d xs first second).answer ≡ Err f → offset_of f ≤ length chunk
   refusal_within f = offset-within (length chunk) f (told_within chunk)
 
-  pub refusal_small : (f : Refusal) → (segment_after d xs first second).answer ≡ Refused f → offset_of f ≤ longest_chunk
+  pub refusal_small : (f : Refusal) → (segment_after d xs first second).answer ≡ Err f → offset_of f ≤ longest_chunk
   refusal_small f = offset-within longest_chunk f (told_small chunk f)

@@ -7,7 +7,9 @@ use native.Mathlib.Omega.{arith}
 use borrow.Author.Tests.{le-ltb}
 use lib.ListN.{length, take}
 use lib.Seq.{length-take-le}
+use Rattle.std.proofs.Common.{Result, Ok}
 use Rattle.octets.proofs.Laws.{either}
+use Rattle.meaning.specs.declared.Refusal.{Refusal}
 use Rattle.meaning.specs.declared.Kind.{Kind}
 use Rattle.meaning.specs.declared.Kind.TheVariants.{This, Next}
 use Rattle.meaning.specs.Sizes.{longest_listing}
@@ -98,20 +100,20 @@ module _ (d : Desk) (xs first second : List ℕ) where
       subst (λ (k : Kind). shown (other_kind k) r.desk r.first r.second ≡ shown (other_kind k) d first second) e other-shown
 
   -- what a segment's answer lists is of its kind, and is shown
-  pub listed_shown : (k : Kind) (n : ℕ) → let r = segment_after d xs first second in r.answer ≡ NewList k n → (k ≡ segment_kind xs) × (n ≤ length (lent_for k d.notes.swapped r.first r.second)) × (r.desk.notes.swapped ≡ d.notes.swapped) × (n ≤ longest_listing) × (shown k r.desk r.first r.second ≡ take n (lent_for k d.notes.swapped r.first r.second))
+  pub listed_shown : (k : Kind) (n : ℕ) → let r = segment_after d xs first second in r.answer ≡ Ok (NewList k n) → (k ≡ segment_kind xs) × (n ≤ length (lent_for k d.notes.swapped r.first r.second)) × (r.desk.notes.swapped ≡ d.notes.swapped) × (n ≤ longest_listing) × (shown k r.desk r.first r.second ≡ take n (lent_for k d.notes.swapped r.first r.second))
   listed_shown k n =
       let t : Bool = d.notes.swapped in
       let own : Kind = segment_kind xs in
       let r : After = taken_by own d xs first second in
       segment_cases d xs first second
-      (λ r. r.answer ≡ NewList k n → (k ≡ own) × (n ≤ length (lent_for k t r.first r.second)) × (r.desk.notes.swapped ≡ t) × (n ≤ longest_listing) × (shown k r.desk r.first r.second ≡ take n (lent_for k t r.first r.second)))
+      (λ r. r.answer ≡ Ok (NewList k n) → (k ≡ own) × (n ≤ length (lent_for k t r.first r.second)) × (r.desk.notes.swapped ≡ t) × (n ≤ longest_listing) × (shown k r.desk r.first r.second ≡ take n (lent_for k t r.first r.second)))
       (λ f e a. let z : ◌≡◌ {A = ℕ} 0 1 = cc in absurd (omega arith))
       (λ y fine a.
       let h = takes own d xs first second y.formed fine in
-      let s : Says own (NewList k n) = subst (Says own) a (taken_says d xs first second y fine) in
+      let s : Says own (Ok (NewList k n)) = subst (Says own) a (taken_says d xs first second y fine) in
       let z = taken_ready d xs first second y fine in
       let small = length_small n s.1 in
-      let size : length_for own r.desk.notes ≡ n = h.size ∙ ap (λ (b : Answer). length_after b (length_for own d.notes)) (sym h.answer ∙ a) in
+      let size : length_for own r.desk.notes ≡ n = h.size ∙ ap (λ (b : Result Answer Refusal). length_after b (length_for own d.notes)) (sym h.answer ∙ a) in
       rw s.0 (
         refl,
         omega (arith, lent_room z own t),

@@ -6,16 +6,16 @@ use Prim.Native.Nat.{ℕ, ◌≤◌}
 use native.Mathlib.Omega.{arith}
 use lib.Dec.{eqb}
 use lib.ListN.{length, length-append, length-drop}
+use Rattle.std.proofs.Common.{Result, Ok, Err}
 use Rattle.octets.proofs.Laws.{either}
+use Rattle.meaning.specs.declared.Refusal.{Refusal}
 use Rattle.meaning.specs.declared.Kind.{Kind}
-use Rattle.meaning.specs.declared.Checked.{Checked}
-use Rattle.meaning.specs.declared.Checked.TheVariants.{Fine, Fault}
 use Rattle.meaning.specs.Sizes.{ts_bytes, longest_listing}
 use Rattle.meaning.specs.Listing.{listing}
 use Rattle.meaning.specs.Reading.{checks, list_in}
 use Rattle.meaning.proofs.Lengths.{length-listing, listing-fits}
 use Rattle.slots.specs.declared.Answer.{Answer}
-use Rattle.slots.specs.declared.Answer.TheVariants.{Missing, NewList, Refused}
+use Rattle.slots.specs.declared.Answer.TheVariants.{Missing, NewList}
 use Rattle.segments.specs.Segment.{segment_kind, segment_checks, number_in}
 use Rattle.octets.specs.Sets.{holds}
 use Rattle.slots.specs.Slots.{missing_in, clashing}
@@ -53,28 +53,28 @@ module _ (d : Desk) where
 
 -- ---- what the slot of a kind answers, and that the buffer keeps its length
 
-kind_fine : (v : Checked) (k : Kind) (xs : List ℕ) → kind_checks v k xs ≡ Fine → v ≡ Fine
-kind_fine (Fault f) k xs e = e
-kind_fine Fine k xs e = refl
+kind_fine : (v : Result Unit Refusal) (k : Kind) (xs : List ℕ) → kind_checks v k xs ≡ Ok tt → v ≡ Ok tt
+kind_fine (Err f) k xs e = e
+kind_fine (Ok _) k xs e = refl
 
 -- what is listed is of this kind, and of a length that fits
-abbrev pub Says : Kind → Answer → Type 0
-Says k (Missing n) = Unit {0}
-Says k (NewList j n) = (j ≡ k) × (length_fits n ≡ true)
-Says k (Refused f) = Unit {0}
+abbrev pub Says : Kind → Result Answer Refusal → Type 0
+Says k (Ok (Missing n)) = Unit {0}
+Says k (Ok (NewList j n)) = (j ≡ k) × (length_fits n ≡ true)
+Says k (Err f) = Unit {0}
 
 abbrev Answers : Kind → Side → Outcome → Type 0
 Answers k s o = Says k o.answer × (length o.side.buffer ≡ length s.buffer)
 
 module _ (k : Kind) where
-  says_length : (a : Answer) (n : ℕ) → Says k a → length_fits n ≡ true → length_fits (length_after a n) ≡ true
-  says_length (Missing m) n s h = h
-  says_length (NewList j m) n s h = s.1
-  says_length (Refused f) n s h = h
+  says_length : (a : Result Answer Refusal) (n : ℕ) → Says k a → length_fits n ≡ true → length_fits (length_after a n) ≡ true
+  says_length (Ok (Missing m)) n s h = h
+  says_length (Ok (NewList j m)) n s h = s.1
+  says_length (Err f) n s h = h
 
-  judged-answers : (v : Checked) (s : Side) → longest_listing ≤ length s.buffer → (v ≡ Fine → checks (chunk_in s) ≡ Fine) → Answers k s (judged v k s)
-  judged-answers (Fault f) s room p = (tt, refl)
-  judged-answers Fine s room p =
+  judged-answers : (v : Result Unit Refusal) (s : Side) → longest_listing ≤ length s.buffer → (v ≡ Ok tt → checks (chunk_in s) ≡ Ok tt) → Answers k s (judged v k s)
+  judged-answers (Err f) s room p = (tt, refl)
+  judged-answers (Ok _) s room p =
       let l : List ℕ = listing (list_in (chunk_in s)) in
       let most = listing-fits (chunk_in s) (p refl) in
       let least : ts_bytes ≤ length l = omega (arith, length-listing (list_in (chunk_in s))) in (
@@ -99,7 +99,7 @@ module _ (k : Kind) where
 
 -- ---- a segment that comes to its slot
 
-module _ (d : Desk) (xs first second : List ℕ) (y : Ready d first second) (fine : segment_checks xs ≡ Fine) where
+module _ (d : Desk) (xs first second : List ℕ) (y : Ready d first second) (fine : segment_checks xs ≡ Ok tt) where
   abbrev k : Kind
   k = segment_kind xs
 

@@ -8,21 +8,20 @@ use borrow.Author.Tests.{le-ltb, eq-eqb, ne_eqb, eqb-true}
 use lib.Dec.{T, eqb}
 use lib.ListN.{length, length-take}
 use lib.Seq.{length-sets}
+use Rattle.std.proofs.Common.{Result, Ok, Err}
 use Rattle.octets.specs.Each.{Each}
 use Rattle.octets.specs.Checks.{among}
 use Rattle.octets.proofs.Laws.{either}
 use Rattle.meaning.specs.declared.Kind.{Kind}
 use Rattle.meaning.specs.declared.Refusal.{Refusal}
 use Rattle.meaning.specs.declared.Refusal.TheVariants.{Clash}
-use Rattle.meaning.specs.declared.Checked.{Checked}
-use Rattle.meaning.specs.declared.Checked.TheVariants.{Fine, Fault}
 use Rattle.meaning.specs.Sizes.{longest_chunk}
 use Rattle.meaning.specs.Numbers.{number_of}
 use Rattle.meaning.specs.Reading.{checks}
 use Rattle.meaning.proofs.Gives.{Gives, gives_fine, gives_check, given, ensembles_give}
 use Rattle.slots.specs.declared.Slot.{Slot}
 use Rattle.slots.specs.declared.Answer.{Answer}
-use Rattle.slots.specs.declared.Answer.TheVariants.{Missing, NewList, Refused}
+use Rattle.slots.specs.declared.Answer.TheVariants.{Missing, NewList}
 use Rattle.segments.specs.Segment.{payload_bytes, segment_major, segment_kind, number_in, payload_in, segment_checks}
 use Rattle.octets.specs.Sets.{holds}
 use Rattle.slots.specs.Slots.{spoiled_slot, missing_in, slot_fits, clashing}
@@ -62,17 +61,17 @@ chunk_gives : (xs : List ℕ) → length xs ≤ longest_chunk → Gives chunk_nu
 unfolding checks
 chunk_gives xs h = simp (le-ltb _ _ h) (search (gives_check, ensembles_give))
 
-kind_gives : (v : Checked) (k : Kind) (xs : List ℕ) → Gives chunk_numbers v → Gives chunk_numbers (kind_checks v k xs)
-kind_gives (Fault f) k xs g = g
-kind_gives Fine k xs g = search gives_check
+kind_gives : (v : Result Unit Refusal) (k : Kind) (xs : List ℕ) → Gives chunk_numbers v → Gives chunk_numbers (kind_checks v k xs)
+kind_gives (Err f) k xs g = g
+kind_gives (Ok _) k xs g = search gives_check
 
 -- ---- what is left
 
 -- what is so of the refusal, if an answer is one
-abbrev Refusing : (Refusal → Type 0) → Answer → Type 0
-Refusing P (Missing n) = Unit {0}
-Refusing P (NewList k n) = Unit {0}
-Refusing P (Refused f) = P f
+abbrev Refusing : (Refusal → Type 0) → Result Answer Refusal → Type 0
+Refusing P (Ok (Missing n)) = Unit {0}
+Refusing P (Ok (NewList k n)) = Unit {0}
+Refusing P (Err f) = P f
 
 -- a well formed desk has well formed slots
 pub slot-fits : (k : Kind) (d : Desk) → well_formed d ≡ true → slot_fits (slot_for k d.notes) (bytes_for k d) ≡ true
@@ -85,11 +84,11 @@ module _ (d : Desk) (xs first second : List ℕ) where
   abbrev before : Side
   before = own k d first second
 
-  abbrev Goes : After → Answer → Type 0
+  abbrev Goes : After → Result Answer Refusal → Type 0
   Goes r a = Refusing (λ f. Leaves f d xs first second r) a
 
   -- what comes to the slot goes so
-  taken_goes : Ready d first second → segment_checks xs ≡ Fine → Goes (taken_by k d xs first second) (taken_by k d xs first second).answer
+  taken_goes : Ready d first second → segment_checks xs ≡ Ok tt → Goes (taken_by k d xs first second) (taken_by k d xs first second).answer
   taken_goes y fine =
       let r = taken_by k d xs first second in
       let h = takes k d xs first second y.formed fine in
@@ -107,7 +106,7 @@ module _ (d : Desk) (xs first second : List ℕ) where
   segment_goes =
       segment_cases d xs first second (λ r. Goes r r.answer) (λ f e. unchanged e (refl, refl, refl)) taken_goes
 
-pub refusal_leaves : (d : Desk) (xs first second : List ℕ) (f : Refusal) → let r = segment_after d xs first second in r.answer ≡ Refused f → Leaves f d xs first second r
+pub refusal_leaves : (d : Desk) (xs first second : List ℕ) (f : Refusal) → let r = segment_after d xs first second in r.answer ≡ Err f → Leaves f d xs first second r
 refusal_leaves d xs first second f e = subst (Goes d xs first second (segment_after d xs first second)) e (segment_goes d xs first second)
 
 -- ---- the numbers of refusals
@@ -119,10 +118,10 @@ of_each P (m ∷ ms) n h t =
     either (eqb n m) (λ q. rw (eqb-true n m q) h.0) (λ q. of_each P ms n h.1 (simp q at t))
 
 module _ (d : Desk) (xs first second : List ℕ) (f : Refusal) where
-  pub early_number : call_checks d xs first second ≡ Fault f → T (among early_numbers (number_of f))
+  pub early_number : call_checks d xs first second ≡ Err f → T (among early_numbers (number_of f))
   early_number e = given early_numbers e (call_gives d xs first second)
 
-  chunk-number : call_checks d xs first second ≡ Fine → chunk_checks d xs ≡ Fault f → T (among chunk_numbers (number_of f))
+  chunk-number : call_checks d xs first second ≡ Ok tt → chunk_checks d xs ≡ Err f → T (among chunk_numbers (number_of f))
   chunk-number called e =
       let s : Side = slot_before d xs in
       let chunk : List ℕ = chunk_in (slot_holding d xs) in
@@ -132,10 +131,10 @@ module _ (d : Desk) (xs first second : List ℕ) (f : Refusal) where
       given chunk_numbers e (kind_gives (checks chunk) (segment_kind xs) chunk (chunk_gives chunk short))
 
   -- 5 of the call's own checks is the segment's major
-  own_major : call_checks d xs first second ≡ Fault f → number_of f ≡ 5 → segment_major xs ≡ 0 → ⊥
+  own_major : call_checks d xs first second ≡ Err f → number_of f ≡ 5 → segment_major xs ≡ 0 → ⊥
   own_major e five none = rw five at (given other_numbers e (other_gives d xs first second none))
 
-  pub refusal_number : (segment_after d xs first second).answer ≡ Refused f → T (among (1 ∷ 2 ∷ 3 ∷ 4 ∷ 5 ∷ 6 ∷ 7 ∷ 9 ∷ 10 ∷ 12 ∷ []) (number_of f))
+  pub refusal_number : (segment_after d xs first second).answer ≡ Err f → T (among (1 ∷ 2 ∷ 3 ∷ 4 ∷ 5 ∷ 6 ∷ 7 ∷ 9 ∷ 10 ∷ 12 ∷ []) (number_of f))
   refusal_number e = go (refusal_leaves d xs first second f e)
     where
       all : List ℕ
@@ -147,7 +146,7 @@ module _ (d : Desk) (xs first second : List ℕ) (f : Refusal) where
       go (completes called c z refused b) = of_each (λ n. T (among all n)) chunk_numbers (number_of f) (search) (chunk-number called refused)
 
 -- by its number
-pub refusal_changes : (d : Desk) (xs first second : List ℕ) (f : Refusal) → let r = segment_after d xs first second in r.answer ≡ Refused f → Changes (number_of f) d xs first second r
+pub refusal_changes : (d : Desk) (xs first second : List ℕ) (f : Refusal) → let r = segment_after d xs first second in r.answer ≡ Err f → Changes (number_of f) d xs first second r
 refusal_changes d xs first second f e = go (refusal_leaves d xs first second f e)
   where
     apart : (ms ns : List ℕ) → Each (λ m. T (among ns m) → ⊥) ms → T (among ms (number_of f)) → T (among ns (number_of f)) → ⊥
@@ -201,7 +200,7 @@ answer_exactly d xs first second =
 
 -- ---- a repeat, and a spoiled slot
 
-module _ (d : Desk) (xs first second : List ℕ) (called : call_checks d xs first second ≡ Fine) where
+module _ (d : Desk) (xs first second : List ℕ) (called : call_checks d xs first second ≡ Ok tt) where
   abbrev slot : Slot
   slot = slot_for (segment_kind xs) d.notes
 
@@ -214,12 +213,12 @@ module _ (d : Desk) (xs first second : List ℕ) (called : call_checks d xs firs
       let p = called_ready d xs first second called in
       rw (called, sym e) (takes (segment_kind xs) d xs first second p.0.formed p.1)
 
-  pub repeat-unchanged : clashing slot bytes xs ≡ false → holds slot.held (number_in xs) ≡ true → segment_after d xs first second ≡ after (Missing (missing_in slot)) d first second
+  pub repeat-unchanged : clashing slot bytes xs ≡ false → holds slot.held (number_in xs) ≡ true → segment_after d xs first second ≡ after (Ok (Missing (missing_in slot))) d first second
   unfolding gathered
   repeat-unchanged c h = missing_unchanged (segment_kind xs) d first second _ (comes (simp (c, h)))
 
-  pub spoiled_refused : slot.spoiled ≡ true → let r = segment_after d xs first second in (r.answer ≡ Refused Clash) × (slot_for (segment_kind xs) r.desk.notes ≡ spoiled_slot)
+  pub spoiled_refused : slot.spoiled ≡ true → let r = segment_after d xs first second in (r.answer ≡ Err Clash) × (slot_for (segment_kind xs) r.desk.notes ≡ spoiled_slot)
   unfolding gathered clashing
   spoiled_refused e =
-      let h : Takes (segment_kind xs) d first second (outcome (Refused Clash) (spoil (own (segment_kind xs) d first second))) (segment_after d xs first second) = comes (simp e) in
+      let h : Takes (segment_kind xs) d first second (outcome (Err Clash) (spoil (own (segment_kind xs) d first second))) (segment_after d xs first second) = comes (simp e) in
       (h.answer, h.slot)

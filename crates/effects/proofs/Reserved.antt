@@ -3,10 +3,10 @@ use mathlib.Core.Path.{◌≡◌, refl, sym, ◌∙◌}
 use mathlib.Core.List.{List}
 use Prim.Native.Nat.{ℕ, ◌<◌}
 use lib.ListN.{length}
+use Rattle.std.proofs.Common.{Result, Ok, Err}
 use Rattle.octets.specs.Bits.{Held, Bytes}
+use Rattle.meaning.specs.declared.Refusal.{Refusal}
 use Rattle.meaning.specs.declared.Kind.{Kind}
-use Rattle.meaning.specs.declared.Checked.{Checked}
-use Rattle.meaning.specs.declared.Checked.TheVariants.{Fine, Fault}
 use Rattle.segments.specs.Segment.{Head, head_fields, segment, sort_in, segment_major, segment_kind, error_in, number_in, last_in, payload_in, segment_checks}
 use Rattle.slots.specs.Slots.{clashing}
 use Rattle.slots.specs.Gathering.{Side, gathered}
@@ -40,9 +40,9 @@ pub alike_same : (d : Desk) (xs ys first second : List ℕ) → Alike xs ys → 
 unfolding segment_after taken_by
 alike_same d xs ys first second a = rw (checks_alike a) (go (call_checks d ys first second))
   where
-    go : (v : Checked) → answered_by v d xs first second ≡ answered_by v d ys first second
-    go (Fault f) = refl
-    go Fine = rw a.kind (simp (gathered_alike a))
+    go : (v : Result Unit Refusal) → answered_by v d xs first second ≡ answered_by v d ys first second
+    go (Err f) = refl
+    go (Ok _) = rw a.kind (simp (gathered_alike a))
 
 -- reserved and wake_up_indicator
 pub reserved_ignored : (h : Head) (reserved wake : ℕ) (payload : List ℕ) → Held (head_fields h) → reserved < 2 → wake < 2 → Bytes payload → (d : Desk) (first second : List ℕ) → segment_after d (segment (record { sort = h.sort; reserved = reserved; wake = wake; major = h.major; current = h.current; error = h.error; number = h.number; last = h.last }) payload) first second ≡ segment_after d (segment h payload) first second

@@ -5,15 +5,14 @@ use mathlib.Core.List.{List}
 use Prim.Native.Nat.{ℕ}
 use borrow.Author.Tests.{le-ltb, not-false}
 use lib.ListN.{length}
+use Rattle.std.proofs.Common.{Result, Ok, Err}
 use Rattle.meaning.specs.declared.Kind.{Kind}
 use Rattle.meaning.specs.declared.Kind.TheVariants.{This, Next}
 use Rattle.meaning.specs.declared.Refusal.{Refusal}
 use Rattle.meaning.specs.declared.Refusal.TheVariants.{ShortBuffer, BadDesk}
-use Rattle.meaning.specs.declared.Checked.{Checked}
-use Rattle.meaning.specs.declared.Checked.TheVariants.{Fine, Fault}
 use Rattle.meaning.specs.Sizes.{longest_chunk}
 use Rattle.meaning.proofs.Checks.{check_passed}
-use Rattle.slots.specs.declared.Answer.TheVariants.{Missing, Refused}
+use Rattle.slots.specs.declared.Answer.TheVariants.{Missing}
 use Rattle.segments.specs.Segment.{segment_kind, segment_checks}
 use Rattle.slots.specs.Gathering.{Side, Outcome, outcome, gathered}
 use Rattle.slots.proofs.Keeps.{slot-numbers, gathered-fits}
@@ -41,10 +40,10 @@ pub record Takes (k : Kind) (d : Desk) (first second : List ℕ) (o : Outcome) (
   pub buffer : lent_for k d.notes.swapped r.first r.second ≡ o.side.buffer
   pub other : Kept d.notes.swapped (other_kind k) d first second r
 
-gathered_long : (k : Kind) (d : Desk) (xs buffer : List ℕ) → well_formed d ≡ true → segment_checks xs ≡ Fine → length (gathered k xs (side_of k d buffer)).side.bytes ≡ longest_chunk
+gathered_long : (k : Kind) (d : Desk) (xs buffer : List ℕ) → well_formed d ≡ true → segment_checks xs ≡ Ok tt → length (gathered k xs (side_of k d buffer)).side.bytes ≡ longest_chunk
 gathered_long k d xs buffer w fine = (slot-numbers _ _ (gathered-fits k xs (side_of k d buffer) (kind_fits k d w).1 fine)).0
 
-pub takes : (k : Kind) (d : Desk) (xs first second : List ℕ) → well_formed d ≡ true → segment_checks xs ≡ Fine → Takes k d first second (gathered k xs (own k d first second)) (taken_by k d xs first second)
+pub takes : (k : Kind) (d : Desk) (xs first second : List ℕ) → well_formed d ≡ true → segment_checks xs ≡ Ok tt → Takes k d first second (gathered k xs (own k d first second)) (taken_by k d xs first second)
 unfolding taken_by
 takes This d xs first second w fine =
     let p = put_roles This d.notes.swapped first second _ in
@@ -63,7 +62,7 @@ module _ {k : Kind} {d : Desk} {first second : List ℕ} {o : Outcome} {r : Afte
       (h.slot, h.bytes, h.size ∙ none _, l.0, l.1)
 
 -- a repeat alters nothing
-pub missing_unchanged : {n : ℕ} (k : Kind) (d : Desk) (first second : List ℕ) (r : After) → Takes k d first second (outcome (Missing n) (own k d first second)) r → r ≡ after (Missing n) d first second
+pub missing_unchanged : {n : ℕ} (k : Kind) (d : Desk) (first second : List ℕ) (r : After) → Takes k d first second (outcome (Ok (Missing n)) (own k d first second)) r → r ≡ after (Ok (Missing n)) d first second
 missing_unchanged This d first second r h =
     let b = unlisted_becomes h (λ n. refl) refl in
     let c = h.other in
@@ -77,24 +76,24 @@ missing_unchanged Next d first second r h =
 
 module _ (d : Desk) (xs first second : List ℕ) where
   -- what the checks before the slot's find fine
-  pub called_ready : call_checks d xs first second ≡ Fine → Ready d first second × (segment_checks xs ≡ Fine)
+  pub called_ready : call_checks d xs first second ≡ Ok tt → Ready d first second × (segment_checks xs ≡ Ok tt)
   called_ready e =
       let a = check_passed (not (well_formed d)) BadDesk _ e in
       let b = check_passed (too_short first || too_short second) ShortBuffer _ a.1 in
       (long_ready d first second (not-false _ a.0) b.0, b.1)
 
   -- it is refused by a check before the slot's, and all is as it was, or it comes to the slot
-  pub segment_cases : (P : After → Type 0) → ((f : Refusal) → call_checks d xs first second ≡ Fault f → P (after (Refused f) d first second)) → (Ready d first second → segment_checks xs ≡ Fine → P (taken_by (segment_kind xs) d xs first second)) → P (segment_after d xs first second)
+  pub segment_cases : (P : After → Type 0) → ((f : Refusal) → call_checks d xs first second ≡ Err f → P (after (Err f) d first second)) → (Ready d first second → segment_checks xs ≡ Ok tt → P (taken_by (segment_kind xs) d xs first second)) → P (segment_after d xs first second)
   unfolding segment_after
   segment_cases P refused taken = go (call_checks d xs first second) refl
     where
-      go : (v : Checked) → call_checks d xs first second ≡ v → P (answered_by v d xs first second)
-      go (Fault f) e = refused f e
-      go Fine e = let p = called_ready e in taken p.0 p.1
+      go : (v : Result Unit Refusal) → call_checks d xs first second ≡ v → P (answered_by v d xs first second)
+      go (Err f) e = refused f e
+      go (Ok _) e = let p = called_ready e in taken p.0 p.1
 
   -- and the other way round
-  pub ready_called : Ready d first second → segment_checks xs ≡ Fine → call_checks d xs first second ≡ Fine
+  pub ready_called : Ready d first second → segment_checks xs ≡ Ok tt → call_checks d xs first second ≡ Ok tt
   ready_called y fine = simp (y.formed, le-ltb _ _ y.left, le-ltb _ _ y.right, fine)
 
-  pub segment_comes : (k : Kind) → segment_kind xs ≡ k → Ready d first second → segment_checks xs ≡ Fine → Takes k d first second (gathered k xs (own k d first second)) (segment_after d xs first second)
+  pub segment_comes : (k : Kind) → segment_kind xs ≡ k → Ready d first second → segment_checks xs ≡ Ok tt → Takes k d first second (gathered k xs (own k d first second)) (segment_after d xs first second)
   segment_comes k is y fine = rw (ready_answered d xs first second y, fine, is) (takes k d xs first second y.formed fine)

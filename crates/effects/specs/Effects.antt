@@ -1,12 +1,10 @@
 -- What a segment's call leaves as it was, in what order it is checked, and what each of its answers comes to: document 01's two effects of a
 -- refusal, and no third; a list; so many missing.
-use Rattle.std.specs.Prelude.{ℕ, ◌≡◌, Bool, true, false, cond, not, ◌&&◌, List, [], ◌∷◌, ◌++◌, T, eqb, length, drop}
+use Rattle.std.specs.Prelude.{ℕ, ◌≡◌, Bool, true, false, cond, not, ◌&&◌, List, [], ◌∷◌, ◌++◌, T, eqb, length, drop, Result, Ok, Err}
 use Rattle.octets.specs.Checks.{check, among}
 use Rattle.meaning.specs.declared.Kind.{Kind}
 use Rattle.meaning.specs.declared.Refusal.{Refusal}
 use Rattle.meaning.specs.declared.Refusal.TheVariants.{Clash}
-use Rattle.meaning.specs.declared.Checked.{Checked}
-use Rattle.meaning.specs.declared.Checked.TheVariants.{Fine, Fault}
 use Rattle.meaning.specs.Lists.{FicList}
 use Rattle.meaning.specs.Layout.{Carries}
 use Rattle.meaning.specs.Listing.{listing}
@@ -50,16 +48,16 @@ abbrev pub completing : Desk → List ℕ → Bool
 completing d xs = not (holds (slot_before d xs).slot.held (number_in xs)) && eqb (missing_in (slot_holding d xs).slot) 0
 
 -- the checks on the chunk that it completes: the reader's, then 10
-abbrev pub chunk_checks : Desk → List ℕ → Checked
+abbrev pub chunk_checks : Desk → List ℕ → Result Unit Refusal
 chunk_checks d xs = let chunk = chunk_in (slot_holding d xs) in kind_checks (checks chunk) (segment_kind xs) chunk
 
 -- ---- the order of all checks on a segment: 12, 1 to 6, 7; then those on the chunk that it completes
 
-unfoldable pub segment_fault : Desk → List ℕ → List ℕ → List ℕ → Checked
+unfoldable pub segment_fault : Desk → List ℕ → List ℕ → List ℕ → Result Unit Refusal
 segment_fault d xs first second =
     and_then (call_checks d xs first second)
-    (check (clashes d xs) (Fault Clash)
-    (cond (completing d xs) (chunk_checks d xs) Fine))
+    (check (clashes d xs) (Err Clash)
+    (cond (completing d xs) (chunk_checks d xs) (Ok tt)))
 
 -- ---- refusals: what they change
 
@@ -87,13 +85,13 @@ Completes d xs first second r =
 pub data Leaves (f : Refusal) (d : Desk) (xs first second : List ℕ) (r : After) : Type 0 where
   -- the call's own checks
   unchanged :
-      call_checks d xs first second ≡ Fault f → Untouched d first second r → Leaves f d xs first second r
+      call_checks d xs first second ≡ Err f → Untouched d first second r → Leaves f d xs first second r
   -- these passed, and it clashes
   spoils :
-      call_checks d xs first second ≡ Fine → clashes d xs ≡ true → f ≡ Clash → Spoils d xs first second r → Leaves f d xs first second r
+      call_checks d xs first second ≡ Ok tt → clashes d xs ≡ true → f ≡ Clash → Spoils d xs first second r → Leaves f d xs first second r
   -- these passed, it does not clash, its place was free, and the chunk that it completes is refused
   completes :
-      call_checks d xs first second ≡ Fine → clashes d xs ≡ false → completing d xs ≡ true → chunk_checks d xs ≡ Fault f → Completes d xs first second r → Leaves f d xs first second r
+      call_checks d xs first second ≡ Ok tt → clashes d xs ≡ false → completing d xs ≡ true → chunk_checks d xs ≡ Err f → Completes d xs first second r → Leaves f d xs first second r
 
 -- the same by its number n: what document 01 says of each
 pub record Changes (n : ℕ) (d : Desk) (xs first second : List ℕ) (r : After) : Type 0 where

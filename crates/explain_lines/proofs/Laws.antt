@@ -4,10 +4,9 @@ use mathlib.Core.List.{List, ◌++◌}
 use Prim.Native.Nat.{ℕ, ◌≤◌}
 use native.Mathlib.Omega.{arith}
 use lib.ListN.{length}
+use Rattle.std.proofs.Common.{Result, Ok, Err}
 use Rattle.text.specs.Text.{Put}
 use Rattle.text.proofs.Laws.{put_both}
-use Rattle.meaning.specs.declared.Checked.{Checked}
-use Rattle.meaning.specs.declared.Checked.TheVariants.{Fine, Fault}
 use Rattle.meaning.specs.Reading.{checks}
 use Rattle.meaning.proofs.Ends.{told_small}
 use Rattle.lines.specs.Lines.{longest_lines}
@@ -16,6 +15,7 @@ use Rattle.field_names.proofs.Laws.{name-short}
 use Rattle.explains.specs.declared.Field.{Field}
 use Rattle.explains.specs.declared.Field.TheVariants.{Length, Row, Payload}
 use Rattle.explain_lines.specs.Lines.{field_name, checked_line}
+use Rattle.meaning.specs.declared.Refusal.{Refusal}
 
 pub put_four : (a b c d l : List ℕ) (to : ℕ) {m n o p : List ℕ} {e f g h : ℕ} → Put a l to m e → Put b m e n f → Put c n f o g → Put d o g p h → Put (a ++ (b ++ (c ++ d))) l to p h
 put_four a b c d l to {m} {n} {o} {p} {e} {f} {g} {h} one two three four =
@@ -27,6 +27,6 @@ field-short (Row t i) = name-short t i
 field-short Payload = omega arith
 
 -- the line of a chunk is no longer than the lines of the log may be
-pub checked_short : (xs : List ℕ) (v : Checked) → v ≡ checks xs → length (checked_line v) ≤ longest_lines
-checked_short xs Fine e = omega arith
-checked_short xs (Fault f) e = omega (arith, length_refusal f (omega (arith, told_small xs f (sym e))))
+pub checked_short : (xs : List ℕ) (v : Result Unit Refusal) → v ≡ checks xs → length (checked_line v) ≤ longest_lines
+checked_short xs (Ok _) e = omega arith
+checked_short xs (Err f) e = omega (arith, length_refusal f (omega (arith, told_small xs f (sym e))))

@@ -1,8 +1,6 @@
 -- Document 02, 8/14, and the programs' page: the line of an explanation, and the lines of a chunk by itself.
-use Rattle.std.specs.Prelude.{ℕ, List, [], ◌++◌}
+use Rattle.std.specs.Prelude.{ℕ, List, [], ◌++◌, Result, Ok, Err}
 use Rattle.text.specs.Text.{text, decimal, numbered}
-use Rattle.meaning.specs.declared.Checked.{Checked}
-use Rattle.meaning.specs.declared.Checked.TheVariants.{Fine, Fault}
 use Rattle.meaning.specs.Reading.{checks}
 use Rattle.lines.specs.Lines.{refusal_line}
 use Rattle.field_names.specs.Names.{name_of}
@@ -11,6 +9,7 @@ use Rattle.explains.specs.declared.Field.TheVariants.{Length, Row, Payload}
 use Rattle.explains.specs.declared.Explained.{Explained}
 use Rattle.explains.specs.declared.Explained.TheVariants.{Nothing, Found, Spoiled}
 use Rattle.explains.specs.Explaining.{chunk_explained}
+use Rattle.meaning.specs.declared.Refusal.{Refusal}
 
 abbrev pub field_name : Field → List ℕ
 field_name Length = text "length"
@@ -31,9 +30,9 @@ abbrev pub longest_explained : ℕ
 longest_explained = 92
 
 -- what the reader's checks say of a chunk
-abbrev pub checked_line : Checked → List ℕ
-checked_line Fine = text "CH 0\n"
-checked_line (Fault f) = text "CH " ++ refusal_line f
+abbrev pub checked_line : Result Unit Refusal → List ℕ
+checked_line (Ok _) = text "CH 0\n"
+checked_line (Err f) = text "CH " ++ refusal_line f
 
 abbrev pub chunk_lines : List ℕ → List ℕ
 chunk_lines xs = checked_line (checks xs) ++ explained_line (chunk_explained xs)

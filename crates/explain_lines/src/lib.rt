@@ -8,7 +8,7 @@ ghost use Rattle.explain_lines.specs.Lines.{field_name, found_text, explained_li
 
 use explains::{Explained, Field};
 use lines::LONGEST_LINES;
-use meaning::Checked;
+use meaning::Refusal;
 
 // Room for the lines of any record: those of the log, and one more.
 pub const LONGEST: usize = LONGEST_LINES + 92;
@@ -58,13 +58,13 @@ pub fn put_explained(explained: Explained, out: &mut [u8], to: usize) -> usize
 }
 
 // What the checks say of a chunk.
-fn put_checked(checked: Checked, out: &mut [u8], to: usize) -> usize
+fn put_checked(checked: Result<(), Refusal>, out: &mut [u8], to: usize) -> usize
     requires { to + longest_lines ≤ length out.old }
     ensures { Put (checked_line checked) out.old to out.new result }
 {
     match checked {
-        Checked::Fine => text::put_text(b"CH 0\n", out, to),
-        Checked::Fault(refusal) => {
+        Ok(_) => text::put_text(b"CH 0\n", out, to),
+        Err(refusal) => {
             let at = text::put_text(b"CH ", out, to);
             lines::put_refusal(refusal, out, at)
         }

@@ -4,10 +4,10 @@ use mathlib.Core.List.{List}
 use Prim.Native.Nat.{ℕ, ◌≤◌}
 use borrow.Author.Tests.{le-ltb}
 use lib.ListN.{length}
+use Rattle.std.proofs.Common.{Result, Ok, Err}
 use Rattle.octets.specs.Checks.{check}
+use Rattle.meaning.specs.declared.Refusal.{Refusal}
 use Rattle.meaning.specs.declared.Refusal.TheVariants.{Clash}
-use Rattle.meaning.specs.declared.Checked.{Checked}
-use Rattle.meaning.specs.declared.Checked.TheVariants.{Fine, Fault}
 use Rattle.meaning.specs.Checks.{and_then}
 use Rattle.meaning.specs.Numbers.{checked_number, read_values}
 use Rattle.meaning.specs.Reading.{checks, read_checks, read_for, read_answer}
@@ -24,11 +24,11 @@ pub chunk_exactly : (xs before : List ℕ) → longest_listing ≤ length before
 unfolding read_answer
 chunk_exactly xs before long =
     let enough : checks xs ≡ read_checks xs before = sym (simp (le-ltb _ _ long) refl) in
-    chunk-number xs ∙ told (checks xs) ∙ ap (λ (v : Checked). (read_values (read_for v xs)).number) enough
+    chunk-number xs ∙ told (checks xs) ∙ ap (λ (v : Result Unit Refusal). (read_values (read_for v xs)).number) enough
   where
-    told : (v : Checked) → checked_number v ≡ (read_values (read_for v xs)).number
-    told Fine = refl
-    told (Fault f) = refl
+    told : (v : Result Unit Refusal) → checked_number v ≡ (read_values (read_for v xs)).number
+    told (Ok _) = refl
+    told (Err f) = refl
 
 module _ (d : Desk) (xs first second : List ℕ) (ready : Ready (state d first second)) where
   own_checks : segment_checks xs ≡ call_checks d xs first second
@@ -37,7 +37,7 @@ module _ (d : Desk) (xs first second : List ℕ) (ready : Ready (state d first s
   pub segment_exactly : (explained_values (segment_explained xs)).number ≡ checked_number (call_checks d xs first second)
   segment_exactly = segment-number xs ∙ ap checked_number own_checks
 
-  pub gathered_exactly : (explained_values (gathered_explained (slot_before d xs).slot (slot_before d xs).bytes xs)).number ≡ checked_number (and_then (call_checks d xs first second) (check (clashes d xs) (Fault Clash) Fine))
+  pub gathered_exactly : (explained_values (gathered_explained (slot_before d xs).slot (slot_before d xs).bytes xs)).number ≡ checked_number (and_then (call_checks d xs first second) (check (clashes d xs) (Err Clash) (Ok tt)))
   gathered_exactly =
       gathered-number (slot_before d xs).slot (slot_before d xs).bytes xs
-      ∙ ap (λ (v : Checked). checked_number (and_then v (check (clashes d xs) (Fault Clash) Fine))) own_checks
+      ∙ ap (λ (v : Result Unit Refusal). checked_number (and_then v (check (clashes d xs) (Err Clash) (Ok tt)))) own_checks

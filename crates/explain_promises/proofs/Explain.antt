@@ -7,6 +7,7 @@ use mathlib.Core.Logic.{◌⊎◌}
 use Prim.Native.Nat.{ℕ, ◌≤◌, ◌<◌}
 use lib.Dec.{eqb}
 use lib.ListN.{length, take}
+use Rattle.std.proofs.Common.{Ok, Err}
 use Rattle.octets.specs.Bits.{laid, Bytes}
 use Rattle.octets.specs.Checks.{check}
 use Rattle.octets.specs.Tables.{Row, widths, filled, Shaped, before, number_at}
@@ -15,14 +16,12 @@ use Rattle.text.specs.Text.{text}
 use Rattle.meaning.specs.declared.Part.{Part}
 use Rattle.meaning.specs.declared.Refusal.{Refusal}
 use Rattle.meaning.specs.declared.Refusal.TheVariants.{Clash, EndsEarly}
-use Rattle.meaning.specs.declared.Checked.TheVariants.{Fine, Fault}
 use Rattle.meaning.specs.Checks.{and_then}
 use Rattle.meaning.specs.Numbers.{checked_number, read_values}
 use Rattle.meaning.specs.Reading.{checks, read_answer}
 use Rattle.meaning.specs.Sizes.{longest_chunk, longest_listing}
 use Rattle.segments.specs.Segment.{segment_bytes, segment_kind, segment_checks}
 use Rattle.slots.specs.declared.Slot.{Slot}
-use Rattle.slots.specs.declared.Answer.TheVariants.{Refused}
 use Rattle.slots.specs.Slots.{slot_fits}
 use Rattle.slots.specs.Gathering.{answer_values, chunk_in}
 use Rattle.notes.specs.Notes.{slot_for}
@@ -77,7 +76,7 @@ module _ (xs : List ℕ) where
   major_broken = chunks.major_broken xs
 
 -- 9: the first field that is not whole, which lies in the part that the reader's offset tells; no check before it fails
-pub not_whole : {xs : List ℕ} {part : Part} {start : ℕ} → Bytes xs → checks xs ≡ Fault (EndsEarly part start) → (i : ℕ) × (at : ℕ) × (chunk_explained xs ≡ Found 9 (row (table_of part) i) at (length xs)) × NotWhole xs part start i at
+pub not_whole : {xs : List ℕ} {part : Part} {start : ℕ} → Bytes xs → checks xs ≡ Err (EndsEarly part start) → (i : ℕ) × (at : ℕ) × (chunk_explained xs ≡ Found 9 (row (table_of part) i) at (length xs)) × NotWhole xs part start i at
 not_whole = chunks.not_whole
 
 -- ---- a segment
@@ -102,7 +101,7 @@ module _ (xs : List ℕ) where
 -- ---- a segment and the slot of its kind
 
 -- it speaks exactly when the call would refuse the segment itself, or its slot would
-pub gathered_exactly : (d : Desk) (xs first second : List ℕ) → Ready (state d first second) → (explained_values (gathered_explained (slot_before d xs).slot (slot_before d xs).bytes xs)).number ≡ checked_number (and_then (call_checks d xs first second) (check (clashes d xs) (Fault Clash) Fine))
+pub gathered_exactly : (d : Desk) (xs first second : List ℕ) → Ready (state d first second) → (explained_values (gathered_explained (slot_before d xs).slot (slot_before d xs).bytes xs)).number ≡ checked_number (and_then (call_checks d xs first second) (check (clashes d xs) (Err Clash) (Ok tt)))
 gathered_exactly = exactly.gathered_exactly
 
 module _ (s : Slot) (bytes xs : List ℕ) where
@@ -139,10 +138,10 @@ module _ (s : State) (xs : List ℕ) where
   under_number = under.under_number s xs
 
   -- by the segment and the slot of its kind as it was; or by the chunk that it completes
-  pub under_own : {f : Refusal} → Ready s → (answer_to s xs).answer ≡ Refused f → (completing s.desk xs ≡ false) ⊎ (clashes s.desk xs ≡ true) ⊎ ((segment_checks xs ≡ Fine) → ⊥) → under_segment s xs ≡ gathered_explained (slot_for (segment_kind xs) s.desk.notes) (bytes_for (segment_kind xs) s.desk) xs
+  pub under_own : {f : Refusal} → Ready s → (answer_to s xs).answer ≡ Err f → (completing s.desk xs ≡ false) ⊎ (clashes s.desk xs ≡ true) ⊎ ((segment_checks xs ≡ Ok tt) → ⊥) → under_segment s xs ≡ gathered_explained (slot_for (segment_kind xs) s.desk.notes) (bytes_for (segment_kind xs) s.desk) xs
   under_own = under.under_own s xs
 
-  pub under_held : {f : Refusal} → Ready s → segment_checks xs ≡ Fine → clashes s.desk xs ≡ false → (answer_to s xs).answer ≡ Refused f → under_segment s xs ≡ chunk_explained (chunk_in (slot_holding s.desk xs))
+  pub under_held : {f : Refusal} → Ready s → segment_checks xs ≡ Ok tt → clashes s.desk xs ≡ false → (answer_to s xs).answer ≡ Err f → under_segment s xs ≡ chunk_explained (chunk_in (slot_holding s.desk xs))
   under_held = under.under_held s xs
 
 -- what all turns write is what it prints for the file, whatever the reads bring

@@ -6,6 +6,7 @@ use Prim.Native.Nat.{ℕ, ◌+◌, ◌-◌, ◌*◌, ◌^◌, ◌≤◌, ◌<◌
 use native.Mathlib.Omega.{arith}
 use lib.Dec.{eqb}
 use lib.ListN.{length, drop, length-append, length-take, length-drop}
+use Rattle.std.proofs.Common.{Result, Ok, Err}
 use Rattle.octets.specs.Tables.{before, first_not_whole}
 use Rattle.octets.proofs.Laws.{either, cond_both}
 use Rattle.octets.proofs.Tables.{not_whole_before, number_small}
@@ -15,16 +16,16 @@ use Rattle.records.specs.declared.Form.{Form}
 use Rattle.records.specs.declared.Form.TheVariants.{Foreign, Fixed, Counted}
 use Rattle.records.specs.declared.Entry.{Entry}
 use Rattle.records.specs.declared.Entry.TheVariants.{End, Whole, Unknown, Cut}
-use Rattle.records.specs.Records.{mark_bytes, length_bytes, mark_of, mark_in, entry_in, is_whole, size_of, Record, record_in, body_in}
+use Rattle.records.specs.Records.{mark_bytes, length_bytes, mark_of, mark_in, entry_in, is_whole, size_of, Record, record_in, body_in, form_bytes}
 use Rattle.records.specs.Transcripts.{text_in, filled}
-use Rattle.records.proofs.Entries.{allowed, size_by, form_bytes, count_within, Within}
+use Rattle.records.proofs.Entries.{allowed, size_by, count_within, Within}
 use Rattle.records.proofs.Counted.{whole_told}
 use Rattle.records.proofs.Transcripts.{filled_cases, cost-text}
+use Rattle.programs.specs.Programs.{Holds}
+use Rattle.programs.proofs.Filling.{holds-short}
 use Rattle.meaning.specs.declared.Kind.{Kind}
 use Rattle.meaning.specs.declared.Refusal.{Refusal}
 use Rattle.meaning.specs.declared.Refusal.TheVariants.{ShortBuffer, SegmentLength, SegmentType, ErrorBit, OtherMajor, NumberAboveLast, Clash, TooLong, EndsEarly, KindDiffers, BadDesk}
-use Rattle.meaning.specs.declared.Checked.{Checked}
-use Rattle.meaning.specs.declared.Checked.TheVariants.{Fine, Fault}
 use Rattle.meaning.specs.Sizes.{longest_chunk}
 use Rattle.meaning.specs.Numbers.{checked_number}
 use Rattle.meaning.specs.Reading.{checks}
@@ -32,7 +33,7 @@ use Rattle.meaning.proofs.Ends.{told_small}
 use Rattle.segments.specs.Segment.{segment_header_bytes, payload_bytes, segment_kind, place_of, number_in, last_in, payload_in, segment_checks}
 use Rattle.slots.specs.declared.Slot.{Slot}
 use Rattle.slots.specs.declared.Answer.{Answer}
-use Rattle.slots.specs.declared.Answer.TheVariants.{Missing, NewList, Refused}
+use Rattle.slots.specs.declared.Answer.TheVariants.{Missing, NewList}
 use Rattle.slots.specs.Slots.{clashing}
 use Rattle.slots.specs.Gathering.{chunk_in}
 use Rattle.notes.specs.Notes.{slot_for}
@@ -79,11 +80,11 @@ differing_most [] zs = omega arith
 differing_most (y ∷ ys) [] = omega arith
 differing_most (y ∷ ys) (z ∷ zs) = either (eqb y z) (λ t. simp t (omega (arith, differing_most ys zs))) (λ t. simp t (omega arith))
 
-abbrev Short : List ℕ → Type 0
+abbrev pub Short : List ℕ → Type 0
 Short xs = length xs ≤ longest_record
 
 module _ (xs : List ℕ) (short : Short xs) where
-  fault_small : (f : Refusal) → checks xs ≡ Fault f → Small (chunk_fault f xs)
+  fault_small : (f : Refusal) → checks xs ≡ Err f → Small (chunk_fault f xs)
   unfolding before
   fault_small TooLong e = (omega arith, omega arith)
   fault_small (EndsEarly part at) e =
@@ -104,9 +105,9 @@ module _ (xs : List ℕ) (short : Short xs) where
   unfolding chunk_explained
   chunk_small = go (checks xs) refl
     where
-      go : (v : Checked) → checks xs ≡ v → Small (chunk_by v xs)
-      go Fine e = tt
-      go (Fault f) e = fault_small f e
+      go : (v : Result Unit Refusal) → checks xs ≡ v → Small (chunk_by v xs)
+      go (Ok _) e = tt
+      go (Err f) e = fault_small f e
 
   chunk-fits : length (chunk_lines xs) ≤ longest_text
   chunk-fits =
@@ -146,12 +147,12 @@ module _ (xs : List ℕ) (short : Short xs) where
 
 -- ---- under the line of a segment
 
-refused_small : (a : Answer) (own held : Explained) → Small own → Small held → Small (refused_by a own held)
-refused_small (Missing n) own held o h = tt
-refused_small (NewList k n) own held o h = tt
-refused_small (Refused f) Nothing held o h = h
-refused_small (Refused f) (Found n field at value) held o h = o
-refused_small (Refused f) Spoiled held o h = tt
+refused_small : (a : Result Answer Refusal) (own held : Explained) → Small own → Small held → Small (refused_by a own held)
+refused_small (Ok (Missing n)) own held o h = tt
+refused_small (Ok (NewList k n)) own held o h = tt
+refused_small (Err f) Nothing held o h = h
+refused_small (Err f) (Found n field at value) held o h = o
+refused_small (Err f) Spoiled held o h = tt
 
 module _ (s : State) (y : Ready s) where
   under_small : (xs : List ℕ) → Short xs → Small (under_segment s xs)
@@ -169,7 +170,7 @@ module _ (s : State) (y : Ready s) where
       either (eqb r.mark (mark_of "FR")) (λ t. simp t tt)
       (λ t. either (eqb r.mark (mark_of "GA")) (λ u. simp (t, u) tt) (λ u. simp (t, u) (under_small r.content short)))
 
-  record_fits : (r : Record) → Short r.content → length (lines_of s r) ≤ longest_text
+  pub record_fits : (r : Record) → Short r.content → length (lines_of s r) ≤ longest_text
   record_fits r short =
       either (is_chunk r) (λ t. rw t (chunk-fits (body_in r) (omega (arith, length-drop length_bytes r.content))))
       (λ t.
@@ -181,36 +182,9 @@ module _ (s : State) (y : Ready s) where
 pub explain_within : Within longest_record explain_form
 explain_within m = either (eqb m (mark_of "CH")) (λ t. rw t (omega arith)) (λ t. rw t (omega (arith, log-within m)))
 
-size-within : (f : Form) (xs : List ℕ) → allowed f xs ≡ true → size_by f xs ≤ form_bytes f
-size-within Foreign xs a = absurd (true≢false (sym a))
-size-within (Fixed n) xs a = omega arith
-size-within (Counted least most) xs a = omega (arith, count_within xs least most a)
-
-content-short : (xs : List ℕ) (e : Entry) → e ≡ entry_in explain_form xs → Short (record_in (size_of e) xs).content
-content-short xs (Whole size) is =
-    let form : Form = explain_form (mark_in xs) in
-    let told = whole_told explain_form xs size is form refl in
-    omega (arith, length-take (size - mark_bytes) (drop mark_bytes xs), size-within form xs told.0, told.1, explain_within (mark_in xs))
-content-short xs End is = omega arith
-content-short xs Unknown is = omega arith
-content-short xs Cut is = omega arith
-
-pub text-fits : (s : State) (xs : List ℕ) → Ready s → length (text_in explain_program s xs) ≤ longest_text
-text-fits s xs y =
-    let e : Entry = entry_in explain_form xs in
-    either (is_whole e) (λ w. rw w (record_fits s y (record_in (size_of e) xs) (content-short xs e refl))) (λ w. rw w (omega arith))
+-- a record that a mark tells is no longer
+pub record-short : (mark : ℕ) (content : List ℕ) → Holds (explain_form mark) content → Short content
+record-short mark content holds = omega (arith, holds-short (explain_form mark) content holds, explain_within mark)
 
 pub explain_ready : (s : State) (r : Record) → Ready s → Ready (explain_program.next s r)
 explain_ready s r y = either (is_chunk r) (λ t. rw t y) (λ t. rw t (next_ready s r y))
-
-pub filled-fits : (room : ℕ) (s : State) (xs : List ℕ) → Ready s → length (filled explain_program room s xs).text ≤ room
-filled-fits =
-    filled_cases explain_program (λ room s xs f. Ready s → length f.text ≤ room) (λ room s xs t y. omega arith)
-    (λ room s xs w r f q y.
-    omega (
-      arith,
-      text-fits s xs y,
-      cost-text explain_program (λ s r. refl) s xs,
-      length-append (text_in explain_program s xs) f.text,
-      q (rw w (explain_ready s (record_in (size_of (entry_in explain_form xs)) xs) y)),
-    ))

@@ -8,11 +8,10 @@ use native.Mathlib.Omega.{arith}
 use borrow.Author.Tests.{le-ltb}
 use lib.Dec.{eqb}
 use lib.ListN.{get_or, take}
+use Rattle.std.proofs.Common.{Result, Ok, Err}
 use Rattle.octets.specs.Checks.{check}
 use Rattle.meaning.specs.declared.Refusal.{Refusal}
 use Rattle.meaning.specs.declared.Refusal.TheVariants.{KindDiffers}
-use Rattle.meaning.specs.declared.Checked.{Checked}
-use Rattle.meaning.specs.declared.Checked.TheVariants.{Fine, Fault}
 use Rattle.meaning.specs.Lists.{current_of}
 use Rattle.meaning.specs.Checks.{and_then}
 use Rattle.meaning.specs.Numbers.{number_of, checked_number}
@@ -21,7 +20,7 @@ use Rattle.meaning.proofs.Checks.{fault≢fine}
 use Rattle.meaning.proofs.Answers.{refusal_values}
 use Rattle.segments.specs.Segment.{payload_bytes, segment_kind, segment_checks}
 use Rattle.slots.specs.declared.Answer.{Answer}
-use Rattle.slots.specs.declared.Answer.TheVariants.{Missing, NewList, Refused}
+use Rattle.slots.specs.declared.Answer.TheVariants.{Missing, NewList}
 use Rattle.slots.specs.Gathering.{answer_values, chunk_in}
 use Rattle.notes.specs.Notes.{slot_for}
 use Rattle.desk.specs.Desks.{bytes_for, call_checks}
@@ -49,10 +48,10 @@ number_first (Found n field at value) rest some = refl
 number_first Spoiled rest some = refl
 
 -- what the first checks find, where those and 10 refuse
-then_told : (v : Checked) (t : Bool) (f : Refusal) → (v ≡ Fault f → number_of f ≡ told (number_of f)) → and_then v (check t (Fault KindDiffers) Fine) ≡ Fault f → checked_number v ≡ told (number_of f)
-then_told (Fault g) t f other e = ap checked_number e ∙ other e
-then_told Fine true f other e = rw (← ap checked_number e)
-then_told Fine false f other e = absurd (fault≢fine (sym e))
+then_told : (v : Result Unit Refusal) (t : Bool) (f : Refusal) → (v ≡ Err f → number_of f ≡ told (number_of f)) → and_then v (check t (Err KindDiffers) (Ok tt)) ≡ Err f → checked_number v ≡ told (number_of f)
+then_told (Err g) t f other e = ap checked_number e ∙ other e
+then_told (Ok _) true f other e = rw (← ap checked_number e)
+then_told (Ok _) false f other e = absurd (fault≢fine (sym e))
 
 module _ (s : State) (xs : List ℕ) (y : Ready s) where
   -- of the segment and its slot as it was
@@ -62,18 +61,18 @@ module _ (s : State) (xs : List ℕ) (y : Ready s) where
   abbrev chunk : List ℕ
   chunk = chunk_in (slot_holding s.desk xs)
 
-  own_nothing : segment_checks xs ≡ Fine → clashes s.desk xs ≡ false → own ≡ Nothing
+  own_nothing : segment_checks xs ≡ Ok tt → clashes s.desk xs ≡ false → own ≡ Nothing
   unfolding gathered_explained
   own_nothing fine clash = simp (fine, clash)
 
-  chunk_told : {f : Refusal} → chunk_checks s.desk xs ≡ Fault f → checked_number (checks chunk) ≡ told (number_of f)
+  chunk_told : {f : Refusal} → chunk_checks s.desk xs ≡ Err f → checked_number (checks chunk) ≡ told (number_of f)
   chunk_told {f} =
       then_told (checks chunk) (not (eqb (get_or chunk 1 0 % 2) (current_of (segment_kind xs)))) f
       (λ e. of_each (λ n. n ≡ told n) (1 ∷ 5 ∷ 8 ∷ 9 ∷ []) (number_of f) (omega arith) (refusal_values chunk s.first {f = f} (simp (le-ltb _ _ y.1, e))).0)
 
-  module _ {f : Refusal} (is : (answer_to s xs).answer ≡ Refused f) where
+  module _ {f : Refusal} (is : (answer_to s xs).answer ≡ Err f) where
     -- a refusal of the segment by itself or with its slot, or of the chunk that it completes
-    ways : {R : Type 0} → ((explained_values own).number ≡ number_of f → Told (number_of f) → under_segment s xs ≡ own → R) → (segment_checks xs ≡ Fine → clashes s.desk xs ≡ false → completing s.desk xs ≡ true → chunk_checks s.desk xs ≡ Fault f → under_segment s xs ≡ chunk_explained chunk → R) → R
+    ways : {R : Type 0} → ((explained_values own).number ≡ number_of f → Told (number_of f) → under_segment s xs ≡ own → R) → (segment_checks xs ≡ Ok tt → clashes s.desk xs ≡ false → completing s.desk xs ≡ true → chunk_checks s.desk xs ≡ Err f → under_segment s xs ≡ chunk_explained chunk → R) → R
     unfolding under_segment
     ways {R} alone whole = go (refusal_leaves s.desk xs s.first s.second f is)
       where
@@ -89,7 +88,7 @@ module _ (s : State) (xs : List ℕ) (y : Ready s) where
             (of_each Told early_numbers (number_of f) (omega arith) (early_number s.desk xs s.first s.second f c))
         go (spoils c clash seven b) = first (gathered-number _ _ xs ∙ simp (sym checked ∙ c, clash, seven)) (rw seven (omega arith))
         go (completes c clash z e b) =
-            let fine : segment_checks xs ≡ Fine = sym checked ∙ c in
+            let fine : segment_checks xs ≡ Ok tt = sym checked ∙ c in
             whole fine clash z e (rw (is, own_nothing fine clash) (λ i. chunk_explained (take (payload_bytes * ((b.0.0 i).last + 1)) (b.0.1 i))))
 
     refused_number : (explained_values (under_segment s xs)).number ≡ told (number_of f)
@@ -100,17 +99,17 @@ pub under_number : (s : State) (xs : List ℕ) → Ready s → (explained_values
 unfolding under_segment
 under_number s xs y = go (answer_to s xs).answer refl
   where
-    go : (a : Answer) → (answer_to s xs).answer ≡ a → (explained_values (under_segment s xs)).number ≡ told (answer_values a).number
-    go (Missing n) is = rw is
-    go (NewList k n) is = rw is
-    go (Refused f) is = refused_number s xs y is
+    go : (a : Result Answer Refusal) → (answer_to s xs).answer ≡ a → (explained_values (under_segment s xs)).number ≡ told (answer_values a).number
+    go (Ok (Missing n)) is = rw is
+    go (Ok (NewList k n)) is = rw is
+    go (Err f) is = refused_number s xs y is
 
 -- 2 to 7 are explained by the segment and its slot as it was; what the completed chunk is refused for, by that chunk
-pub under_own : (s : State) (xs : List ℕ) {f : Refusal} → Ready s → (answer_to s xs).answer ≡ Refused f → (completing s.desk xs ≡ false) ⊎ (clashes s.desk xs ≡ true) ⊎ ((segment_checks xs ≡ Fine) → ⊥) → under_segment s xs ≡ gathered_explained (slot_for (segment_kind xs) s.desk.notes) (bytes_for (segment_kind xs) s.desk) xs
+pub under_own : (s : State) (xs : List ℕ) {f : Refusal} → Ready s → (answer_to s xs).answer ≡ Err f → (completing s.desk xs ≡ false) ⊎ (clashes s.desk xs ≡ true) ⊎ ((segment_checks xs ≡ Ok tt) → ⊥) → under_segment s xs ≡ gathered_explained (slot_for (segment_kind xs) s.desk.notes) (bytes_for (segment_kind xs) s.desk) xs
 under_own s xs y is why =
     ways s xs y is (λ n some u. u)
     (λ fine clash z e u. absurd (⊎_elim (λ c. true≢false (sym z ∙ c)) (⊎_elim (λ c. true≢false (sym c ∙ clash)) (λ c. c fine)) why))
 
-pub under_held : (s : State) (xs : List ℕ) {f : Refusal} → Ready s → segment_checks xs ≡ Fine → clashes s.desk xs ≡ false → (answer_to s xs).answer ≡ Refused f → under_segment s xs ≡ chunk_explained (chunk_in (slot_holding s.desk xs))
+pub under_held : (s : State) (xs : List ℕ) {f : Refusal} → Ready s → segment_checks xs ≡ Ok tt → clashes s.desk xs ≡ false → (answer_to s xs).answer ≡ Err f → under_segment s xs ≡ chunk_explained (chunk_in (slot_holding s.desk xs))
 under_held s xs y fine clash is =
     ways s xs y is (λ n some u. absurd (some.0 (sym n ∙ rw (own_nothing s xs y fine clash)))) (λ fine clash z e u. u)

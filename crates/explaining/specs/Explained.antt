@@ -1,12 +1,12 @@
 -- Document 02, 8/14, and the programs' page: a log with each refusal explained under its line, and chunks by themselves.
-use Rattle.std.specs.Prelude.{ℕ, ◌+◌, ◌≡◌, Bool, cond, List, [], ◌++◌, eqb, length}
+use Rattle.std.specs.Prelude.{ℕ, ◌+◌, ◌≡◌, Bool, cond, List, [], ◌++◌, eqb, length, Result, Ok, Err}
 use Rattle.text.specs.Text.{Put}
 use Rattle.records.specs.declared.Form.TheVariants.{Counted}
 use Rattle.records.specs.Records.{mark_bytes, length_bytes, mark_of, Forms, Record, body_in, last_line}
-use Rattle.records.specs.Transcripts.{Program, filled}
+use Rattle.records.specs.Transcripts.{Program}
 use Rattle.segments.specs.Segment.{segment_kind}
 use Rattle.slots.specs.declared.Answer.{Answer}
-use Rattle.slots.specs.declared.Answer.TheVariants.{Missing, NewList, Refused}
+use Rattle.slots.specs.declared.Answer.TheVariants.{Missing, NewList}
 use Rattle.slots.specs.Gathering.{chunk_in}
 use Rattle.desk.specs.Desks.{side_of}
 use Rattle.desk.specs.Calls.{Call, frame, gathering, segment, State, answer_to}
@@ -16,6 +16,7 @@ use Rattle.explains.specs.declared.Explained.{Explained}
 use Rattle.explains.specs.declared.Explained.TheVariants.{Nothing, Found, Spoiled}
 use Rattle.explains.specs.Explaining.{chunk_explained, gathered_explained}
 use Rattle.explain_lines.specs.Lines.{explained_line, longest_explained, chunk_lines}
+use Rattle.meaning.specs.declared.Refusal.{Refusal}
 
 -- the records of a log, and CH with a chunk, whatever its length
 abbrev pub explain_form : Forms
@@ -32,10 +33,10 @@ or_else (Found n field at value) rest = Found n field at value
 or_else Spoiled rest = Spoiled
 
 -- a refusal: what is at fault in the segment itself or with its slot; else in the chunk that the slot then holds
-abbrev pub refused_by : Answer → Explained → Explained → Explained
-refused_by (Missing n) own held = Nothing
-refused_by (NewList k n) own held = Nothing
-refused_by (Refused f) own held = or_else own held
+abbrev pub refused_by : Result Answer Refusal → Explained → Explained → Explained
+refused_by (Ok (Missing n)) own held = Nothing
+refused_by (Ok (NewList k n)) own held = Nothing
+refused_by (Err f) own held = or_else own held
 
 unfoldable pub under_segment : State → List ℕ → Explained
 under_segment s xs =
@@ -82,9 +83,3 @@ abbrev pub RecordSays : State → ℕ → List ℕ → State → List ℕ → �
 RecordSays s mark content t out to left end =
     let r : Record = record { mark = mark; content = content } in
     (t ≡ left_of s r) × Put (lines_of s r) out to left end
-
--- what the records at the start of a block leave, as many as the output takes
-abbrev pub FillSays : State → List ℕ → List ℕ → State → ℕ → List ℕ → ℕ → Type 0
-FillSays s block out t read left wrote =
-    let f = filled explain_program (length out) s block in
-    (t ≡ f.state) × (read ≡ f.read) × Put f.text out 0 left wrote

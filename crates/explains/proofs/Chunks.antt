@@ -7,17 +7,17 @@ use native.Mathlib.Omega.{arith}
 use borrow.Author.Tests.{ltb-true, ltb-false, eqb-true, eqb-false}
 use lib.Dec.{T, eqb, ltb}
 use lib.ListN.{length, get_or, take, get_or-append, get_or-eq_default}
+use Rattle.std.proofs.Common.{Result, Err, Some}
 use Rattle.octets.specs.Bits.{Field, field, run, bytes_of, Bytes}
 use Rattle.octets.specs.Each.{Each}
 use Rattle.octets.specs.Checks.{check, among}
 use Rattle.octets.specs.Tables.{before, first_not_whole, number_at}
 use Rattle.octets.proofs.Laws.{either, each_append, each_right, get_d_byte, width, width_append, width_run, length-bytes_of}
 use Rattle.octets.proofs.Tables.{before_next, before_mono, not_whole_before, not_whole_past, not_whole_within, number_in-byte}
+use Rattle.meaning.specs.declared.Refusal.{Refusal}
 use Rattle.meaning.specs.declared.Part.{Part}
 use Rattle.meaning.specs.declared.Part.TheVariants.{Header, EnsembleFields, SingleService}
 use Rattle.meaning.specs.declared.Refusal.TheVariants.{OtherMajor, TooLong, EndsEarly}
-use Rattle.meaning.specs.declared.Checked.{Checked}
-use Rattle.meaning.specs.declared.Checked.TheVariants.{Fault}
 use Rattle.meaning.specs.Sizes.{longest_chunk, chunk_header_bytes, ensemble_bytes, service_bytes}
 use Rattle.meaning.specs.Numbers.{checked_number}
 use Rattle.meaning.specs.Reading.{checks, ensembles_in, major_in, h_in}
@@ -38,7 +38,7 @@ use Rattle.explains.proofs.Exactly.{chunk-number}
 -- ---- too long, or of another major version
 
 -- what the checks find: 8, or 5, or 9 or nothing
-checks_ways : {R : Type 0} (xs : List ℕ) → (longest_chunk < length xs → checks xs ≡ Fault TooLong → R) → (length xs ≤ longest_chunk → 2 ≤ length xs → (major_in xs ≡ 0 → ⊥) → checks xs ≡ Fault OtherMajor → R) → (length xs ≤ longest_chunk → (2 ≤ length xs → major_in xs ≡ 0) → T (among (0 ∷ 9 ∷ []) (checked_number (checks xs))) → R) → R
+checks_ways : {R : Type 0} (xs : List ℕ) → (longest_chunk < length xs → checks xs ≡ Err TooLong → R) → (length xs ≤ longest_chunk → 2 ≤ length xs → (major_in xs ≡ 0 → ⊥) → checks xs ≡ Err OtherMajor → R) → (length xs ≤ longest_chunk → (2 ≤ length xs → major_in xs ≡ 0) → T (among (0 ∷ 9 ∷ []) (checked_number (checks xs))) → R) → R
 unfolding checks
 checks_ways xs long other rest =
     either (ltb longest_chunk (length xs)) (λ q. long (ltb-true _ _ q) (simp q))
@@ -48,20 +48,20 @@ checks_ways xs long other rest =
     (λ r.
     either (eqb (major_in xs) 0)
     (λ m.
-    let early : Checked = check (ltb (length xs) (chunk_header_bytes + h_in xs)) (Fault (EndsEarly Header 0)) (ensembles_in xs) in
+    let early : Result Unit Refusal = check (ltb (length xs) (chunk_header_bytes + h_in xs)) (Err (EndsEarly Header 0)) (ensembles_in xs) in
     rest room (λ two. eqb-true _ _ m) (simp (q, r, m) (gives_number (9 ∷ []) early (search (gives_check, ensembles_give)))))
     (λ m. other room (ltb-false _ _ r) (eqb-false _ _ m) (simp (q, r, m)))))
 
-pub too_long : (xs : List ℕ) → (explained_values (chunk_explained xs)).number ≡ 8 → (chunk_explained xs ≡ Found 8 Length 0 (length xs)) × (longest_chunk < length xs)
+pub too_long : (xs : List ℕ) → (explained_values (chunk_explained xs)).number ≡ 8 → (chunk_explained xs ≡ Some (Found 8 Length 0 (length xs))) × (longest_chunk < length xs)
 unfolding chunk_explained
 too_long xs eight =
     let number = sym (chunk-number xs) ∙ eight in
     checks_ways xs
-    (λ l e. (ap (λ (v : Checked). chunk_by v xs) e, l))
+    (λ l e. (ap (λ (v : Result Unit Refusal). chunk_by v xs) e, l))
     (λ room two m e. absurd (omega (arith, ap checked_number e)))
     (λ room m t. absurd (rw number at t))
 
-pub major_broken : (xs : List ℕ) → Bytes xs → (explained_values (chunk_explained xs)).number ≡ 5 → (chunk_explained xs ≡ Found 5 (Row Chunk 0) 0 (number_at xs 0 2)) × (number_at xs 0 2 ≡ 0 → ⊥) × (2 ≤ length xs) × (length xs ≤ longest_chunk)
+pub major_broken : (xs : List ℕ) → Bytes xs → (explained_values (chunk_explained xs)).number ≡ 5 → (chunk_explained xs ≡ Some (Found 5 (Row Chunk 0) 0 (number_at xs 0 2))) × (number_at xs 0 2 ≡ 0 → ⊥) × (2 ≤ length xs) × (length xs ≤ longest_chunk)
 unfolding chunk_explained before
 major_broken xs b five =
     let number = sym (chunk-number xs) ∙ five in
@@ -69,7 +69,7 @@ major_broken xs b five =
     (λ l e. absurd (omega (arith, ap checked_number e)))
     (λ room two m e.
     let value : number_at xs 0 2 ≡ major_in xs = number_in-byte xs 0 0 2 (omega arith) (omega arith) ∙ omega (arith, get_d_byte xs 0 b) in
-    (ap (λ (v : Checked). chunk_by v xs) e, (λ z. m (sym value ∙ z)), two, room))
+    (ap (λ (v : Result Unit Refusal). chunk_by v xs) e, (λ z. m (sym value ∙ z)), two, room))
     (λ room m t. absurd (rw number at t))
 
 -- ---- how long a part is
@@ -195,10 +195,10 @@ module _ {xs : List ℕ} {p : Part} {start : ℕ} (h : EndsIn xs p start) where
         inside = omega (arith, before_next i ws, before_mono (suc i) (length ws) ws row, between.1);
       }
 
-pub not_whole : {xs : List ℕ} {p : Part} {start : ℕ} → Bytes xs → checks xs ≡ Fault (EndsEarly p start) → (i : ℕ) × (at : ℕ) × (chunk_explained xs ≡ Found 9 (Row (table_of p) i) at (length xs)) × NotWhole xs p start i at
+pub not_whole : {xs : List ℕ} {p : Part} {start : ℕ} → Bytes xs → checks xs ≡ Err (EndsEarly p start) → (i : ℕ) × (at : ℕ) × (chunk_explained xs ≡ Some (Found 9 (Row (table_of p) i) at (length xs))) × NotWhole xs p start i at
 unfolding chunk_explained
 not_whole {xs} {p} {start} b is =
     checks_ways xs
     (λ l e. absurd (omega (arith, ap checked_number (sym e ∙ is))))
     (λ short two m e. absurd (omega (arith, ap checked_number (sym e ∙ is))))
-    (λ short m t. (_, _, ap (λ (v : Checked). chunk_by v xs) is, ends_not_whole (told_ends b is) short m))
+    (λ short m t. (_, _, ap (λ (v : Result Unit Refusal). chunk_by v xs) is, ends_not_whole (told_ends b is) short m))

@@ -9,6 +9,7 @@ use borrow.Author.Tests.{eqb-true, eqb-false, eq-eqb, not-true}
 use lib.Dec.{eqb}
 use lib.ListN.{length, get_or, length-drop}
 use lib.Seq.{get_or-drop}
+use Rattle.std.proofs.Common.{Result, Ok, Err, Option, Some}
 use Rattle.octets.specs.Bits.{Bytes}
 use Rattle.octets.specs.Same.{same}
 use Rattle.octets.specs.Sets.{holds}
@@ -16,9 +17,8 @@ use Rattle.octets.specs.Checks.{check}
 use Rattle.octets.specs.Tables.{number_at}
 use Rattle.octets.proofs.Laws.{either, get_d_byte}
 use Rattle.octets.proofs.Tables.{number_in-byte}
+use Rattle.meaning.specs.declared.Refusal.{Refusal}
 use Rattle.meaning.specs.declared.Refusal.TheVariants.{Clash}
-use Rattle.meaning.specs.declared.Checked.{Checked}
-use Rattle.meaning.specs.declared.Checked.TheVariants.{Fine, Fault}
 use Rattle.meaning.specs.Checks.{and_then}
 use Rattle.meaning.specs.Numbers.{checked_number}
 use Rattle.segments.specs.Segment.{segment_header_bytes, payload_bytes, place_of, number_in, last_in, payload_in, segment_checks}
@@ -37,7 +37,7 @@ use Rattle.explains.proofs.Exactly.{gathered-number}
 use Rattle.explains.proofs.Segments.{passes, last_value}
 
 pub clash-passes_before : (s : Slot) (bytes xs : List ℕ) → PassesBefore (explained_values (gathered_explained s bytes xs)).number xs
-clash-passes_before s bytes xs = rw (gathered-number s bytes xs) (passes xs (check (clashing s bytes xs) (Fault Clash) Fine))
+clash-passes_before s bytes xs = rw (gathered-number s bytes xs) (passes xs (check (clashing s bytes xs) (Err Clash) (Ok tt)))
 
 -- ---- the first byte that differs
 
@@ -66,7 +66,7 @@ module _ (s : Slot) (bytes xs : List ℕ) where
   held = place_of bytes (number_in xs)
 
   -- what it is with: a spoiled slot, the last number, the payload
-  clash_ways : {R : Type 0} {e : Explained} → clash_fault s bytes xs ≡ e → (s.spoiled ≡ true → Spoiled ≡ e → R) → (s.spoiled ≡ false → (s.last ≡ last_in xs → ⊥) → segment_fault 7 xs ≡ e → R) → (s.spoiled ≡ false → s.last ≡ last_in xs → payload_fault (first_differing (payload_in xs) held) xs ≡ e → R) → R
+  clash_ways : {R : Type 0} {e : Option Explained} → Some (clash_fault s bytes xs) ≡ e → (s.spoiled ≡ true → Some Spoiled ≡ e → R) → (s.spoiled ≡ false → (s.last ≡ last_in xs → ⊥) → Some (segment_fault 7 xs) ≡ e → R) → (s.spoiled ≡ false → s.last ≡ last_in xs → Some (payload_fault (first_differing (payload_in xs) held) xs) ≡ e → R) → R
   clash_ways is spoiled last payload =
       either s.spoiled (λ q. spoiled q (simp q at is))
       (λ q.
@@ -75,15 +75,15 @@ module _ (s : Slot) (bytes xs : List ℕ) where
       (λ r. last q (eqb-false _ _ r) (simp (q, r) at is)))
 
   -- it is explained where the checks on the segment itself pass
-  clash_told : {e : Explained} → gathered_explained s bytes xs ≡ e → (explained_values e).number ≡ 7 → (segment_checks xs ≡ Fine) × (clashing s bytes xs ≡ true) × (clash_fault s bytes xs ≡ e)
+  clash_told : {e : Option Explained} → gathered_explained s bytes xs ≡ e → (explained_values e).number ≡ 7 → (segment_checks xs ≡ Ok tt) × (clashing s bytes xs ≡ true) × (Some (clash_fault s bytes xs) ≡ e)
   unfolding gathered_explained
   clash_told is seven =
-      let both = go (segment_checks xs) refl (sym (gathered-number s bytes xs) ∙ ap (λ (e : Explained). (explained_values e).number) is ∙ seven) in
+      let both = go (segment_checks xs) refl (sym (gathered-number s bytes xs) ∙ ap (λ (e : Option Explained). (explained_values e).number) is ∙ seven) in
       (both.0, both.1, simp (both.0, both.1) at is)
     where
-      go : (v : Checked) → segment_checks xs ≡ v → checked_number (and_then v (check (clashing s bytes xs) (Fault Clash) Fine)) ≡ 7 → (segment_checks xs ≡ Fine) × (clashing s bytes xs ≡ true)
-      go Fine is n = (is, either (clashing s bytes xs) (λ q. q) (λ q. let z : 0 ≡ 7 = simp q at n in absurd (omega arith)))
-      go (Fault f) is n = absurd (rw (ap checked_number is ∙ n) at (check-numbers xs))
+      go : (v : Result Unit Refusal) → segment_checks xs ≡ v → checked_number (and_then v (check (clashing s bytes xs) (Err Clash) (Ok tt))) ≡ 7 → (segment_checks xs ≡ Ok tt) × (clashing s bytes xs ≡ true)
+      go (Ok _) is n = (is, either (clashing s bytes xs) (λ q. q) (λ q. let z : 0 ≡ 7 = simp q at n in absurd (omega arith)))
+      go (Err f) is n = absurd (rw (ap checked_number is ∙ n) at (check-numbers xs))
 
   -- the place is held, with other payload
   held_otherwise : clashing s bytes xs ≡ true → s.spoiled ≡ false → s.last ≡ last_in xs → (holds s.held (number_in xs) ≡ true) × (same held (payload_in xs) ≡ false)
@@ -103,14 +103,14 @@ payload_value xs b i l =
 
 -- ---- what is named
 
-pub spoiled_before : (s : Slot) (bytes xs : List ℕ) → gathered_explained s bytes xs ≡ Spoiled → s.spoiled ≡ true
+pub spoiled_before : (s : Slot) (bytes xs : List ℕ) → gathered_explained s bytes xs ≡ Some Spoiled → s.spoiled ≡ true
 spoiled_before s bytes xs is =
     clash_ways s bytes xs (clash_told s bytes xs is refl).2
     (λ q e. q)
     (λ q l e. let z : ◌≡◌ {A = ℕ} 0 1 = cc e in absurd (omega arith))
     (λ q l e. let z : ◌≡◌ {A = ℕ} 0 1 = cc e in absurd (omega arith))
 
-pub last_differs : (s : Slot) (bytes xs : List ℕ) {i at value : ℕ} → Bytes xs → gathered_explained s bytes xs ≡ Found 7 (Row Segment i) at value → LastDiffers s xs i at value
+pub last_differs : (s : Slot) (bytes xs : List ℕ) {i at value : ℕ} → Bytes xs → gathered_explained s bytes xs ≡ Some (Found 7 (Row Segment i) at value) → LastDiffers s xs i at value
 last_differs s bytes xs {i} {at} {value} b is =
     let told = clash_told s bytes xs is refl in
     clash_ways s bytes xs told.2
@@ -120,7 +120,7 @@ last_differs s bytes xs {i} {at} {value} b is =
     record { row = cc; offset = cc; found = cc; unwanted = λ z. l (sym z ∙ last); sound = q })
     (λ q l e. let z : ◌≡◌ {A = ℕ} 0 1 = cc e in absurd (omega arith))
 
-pub payload_differs : (s : Slot) (bytes xs : List ℕ) {at value : ℕ} → Bytes xs → slot_fits s bytes ≡ true → gathered_explained s bytes xs ≡ Found 7 Payload at value → PayloadDiffers s bytes xs at value
+pub payload_differs : (s : Slot) (bytes xs : List ℕ) {at value : ℕ} → Bytes xs → slot_fits s bytes ≡ true → gathered_explained s bytes xs ≡ Some (Found 7 Payload at value) → PayloadDiffers s bytes xs at value
 payload_differs s bytes xs {at} {value} b fits is =
     let told = clash_told s bytes xs is refl in
     let whole = (segment-passes xs told.0).0 in

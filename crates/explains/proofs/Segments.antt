@@ -8,36 +8,35 @@ use native.Mathlib.Omega.{arith}
 use borrow.Author.Tests.{ltb-true, ltb-false, eqb-true, eqb-false, ne_eqb, lt-leb}
 use lib.Dec.{eqb, ltb}
 use lib.ListN.{length, get_or}
+use Rattle.std.proofs.Common.{Result, Ok, Err, None, Some}
 use Rattle.octets.specs.Bits.{Bytes}
 use Rattle.octets.specs.Tables.{before, number_at}
 use Rattle.octets.proofs.Laws.{either, get_d_byte}
 use Rattle.octets.proofs.Tables.{number_in-byte}
 use Rattle.meaning.specs.declared.Refusal.{Refusal}
 use Rattle.meaning.specs.declared.Refusal.TheVariants.{SegmentLength, SegmentType, ErrorBit, OtherMajor, NumberAboveLast}
-use Rattle.meaning.specs.declared.Checked.{Checked}
-use Rattle.meaning.specs.declared.Checked.TheVariants.{Fine, Fault}
 use Rattle.meaning.specs.Checks.{and_then}
 use Rattle.meaning.specs.Numbers.{number_of, checked_number}
 use Rattle.segments.specs.Segment.{segment_bytes, sort_in, error_in, segment_major, number_in, last_in, segment_checks}
 use Rattle.segments.proofs.Checks.{checks-length, checks-sort, checks-error, checks-major, checks-number}
 use Rattle.fields.specs.declared.Table.TheVariants.{Segment}
 use Rattle.explains.specs.declared.Field.TheVariants.{Length, Row}
-use Rattle.explains.specs.declared.Explained.TheVariants.{Nothing, Found}
+use Rattle.explains.specs.declared.Explained.TheVariants.{Found}
 use Rattle.explains.specs.Explaining.{explained_values, widths_in, row_fault, segment_row, segment_by, segment_explained}
 use Rattle.explains.specs.Breaks.{wanted, RowBroken, PassesBefore}
 use Rattle.explains.proofs.Exactly.{then_fine, segment-number}
 
 -- ---- the checks before the one that fails, whatever is checked after those on the segment itself
 
-module _ (xs : List ℕ) (rest : Checked) where
+module _ (xs : List ℕ) (rest : Result Unit Refusal) where
   abbrev told : ℕ
   told = checked_number (and_then (segment_checks xs) rest)
 
-  told_fault : {f : Refusal} → segment_checks xs ≡ Fault f → told ≡ number_of f
-  told_fault is = ap (λ (v : Checked). checked_number (and_then v rest)) is
+  told_fault : {f : Refusal} → segment_checks xs ≡ Err f → told ≡ number_of f
+  told_fault is = ap (λ (v : Result Unit Refusal). checked_number (and_then v rest)) is
 
   -- a rule whose number is not yet reached is kept
-  kept : {f : Refusal} (a b : ℕ) → ((a ≡ b → ⊥) → segment_checks xs ≡ Fault f) → number_of f < told → a ≡ b
+  kept : {f : Refusal} (a b : ℕ) → ((a ≡ b → ⊥) → segment_checks xs ≡ Err f) → number_of f < told → a ≡ b
   kept a b broken l = either (eqb a b) (λ q. eqb-true a b q) (λ q. absurd (omega (arith, told_fault (broken (eqb-false a b q)))))
 
   pub passes : PassesBefore told xs
@@ -62,12 +61,12 @@ module _ (xs : List ℕ) (rest : Checked) where
           (λ q. ltb-false _ _ q)
 
 pub passes_before : (xs : List ℕ) → PassesBefore (explained_values (segment_explained xs)).number xs
-passes_before xs = rw (segment-number xs) (rw then_fine at (passes xs Fine))
+passes_before xs = rw (segment-number xs) (rw then_fine at (passes xs (Ok tt)))
 
 -- ---- the one that fails
 
 -- what the checks find, and why
-checks_ways : {R : Type 0} (xs : List ℕ) → ((length xs ≡ segment_bytes → ⊥) → segment_checks xs ≡ Fault SegmentLength → R) → (length xs ≡ segment_bytes → (sort_in xs ≡ 0 → ⊥) → segment_checks xs ≡ Fault SegmentType → R) → (length xs ≡ segment_bytes → (error_in xs ≡ 0 → ⊥) → segment_checks xs ≡ Fault ErrorBit → R) → (length xs ≡ segment_bytes → (segment_major xs ≡ 0 → ⊥) → segment_checks xs ≡ Fault OtherMajor → R) → (length xs ≡ segment_bytes → last_in xs < number_in xs → segment_checks xs ≡ Fault NumberAboveLast → R) → (segment_checks xs ≡ Fine → R) → R
+checks_ways : {R : Type 0} (xs : List ℕ) → ((length xs ≡ segment_bytes → ⊥) → segment_checks xs ≡ Err SegmentLength → R) → (length xs ≡ segment_bytes → (sort_in xs ≡ 0 → ⊥) → segment_checks xs ≡ Err SegmentType → R) → (length xs ≡ segment_bytes → (error_in xs ≡ 0 → ⊥) → segment_checks xs ≡ Err ErrorBit → R) → (length xs ≡ segment_bytes → (segment_major xs ≡ 0 → ⊥) → segment_checks xs ≡ Err OtherMajor → R) → (length xs ≡ segment_bytes → last_in xs < number_in xs → segment_checks xs ≡ Err NumberAboveLast → R) → (segment_checks xs ≡ Ok tt → R) → R
 unfolding segment_checks
 checks_ways xs length-fails sort-fails error-fails major-fails number-fails fine =
     either (eqb (length xs) segment_bytes)
@@ -86,11 +85,11 @@ checks_ways xs length-fails sort-fails error-fails major-fails number-fails fine
     (λ q. length-fails (eqb-false _ _ q) (simp q))
 
 -- what is explained, by what the checks find
-explained_by : (xs : List ℕ) {v : Checked} → segment_checks xs ≡ v → segment_explained xs ≡ segment_by (checked_number v) Nothing xs
+explained_by : (xs : List ℕ) {v : Result Unit Refusal} → segment_checks xs ≡ v → segment_explained xs ≡ segment_by (checked_number v) None xs
 unfolding segment_explained
-explained_by xs is = ap (λ (v : Checked). segment_by (checked_number v) Nothing xs) is
+explained_by xs is = ap (λ (v : Result Unit Refusal). segment_by (checked_number v) None xs) is
 
-pub length_broken : (xs : List ℕ) → (explained_values (segment_explained xs)).number ≡ 2 → (segment_explained xs ≡ Found 2 Length 0 (length xs)) × (length xs ≡ segment_bytes → ⊥)
+pub length_broken : (xs : List ℕ) → (explained_values (segment_explained xs)).number ≡ 2 → (segment_explained xs ≡ Some (Found 2 Length 0 (length xs))) × (length xs ≡ segment_bytes → ⊥)
 length_broken xs two =
     let number = sym (segment-number xs) ∙ two in
     checks_ways xs (λ broken e. (explained_by xs e, broken))
@@ -131,13 +130,13 @@ module _ (xs : List ℕ) (b : Bytes xs) (whole : length xs ≡ segment_bytes) wh
   last_value = byte-value 1 4 4 (omega arith) (omega arith) ∙ omega arith
 
 -- a row that is named with a number is the one for it, and does not hold what that wants
-row_wrong : (xs : List ℕ) (m : ℕ) {n i at value : ℕ} → wanted m xs (value_at (segment_row m) xs) ≡ false → row_fault m Segment (segment_row m) xs ≡ Found n (Row Segment i) at value → RowBroken xs n i at value
+row_wrong : (xs : List ℕ) (m : ℕ) {n i at value : ℕ} → wanted m xs (value_at (segment_row m) xs) ≡ false → Some (row_fault m Segment (segment_row m) xs) ≡ Some (Found n (Row Segment i) at value) → RowBroken xs n i at value
 row_wrong xs m {n} {i} {at} {value} wrong is =
     let number : n ≡ m = cc in
     let same : value ≡ value_at (segment_row m) xs = cc in
     record { row = cc; offset = cc; found = cc; unwanted = (λ j. wanted (number j) xs (same j)) ∙ wrong }
 
-pub row_broken : (xs : List ℕ) {n i at value : ℕ} → Bytes xs → segment_explained xs ≡ Found n (Row Segment i) at value → RowBroken xs n i at value
+pub row_broken : (xs : List ℕ) {n i at value : ℕ} → Bytes xs → segment_explained xs ≡ Some (Found n (Row Segment i) at value) → RowBroken xs n i at value
 row_broken xs b is =
     checks_ways xs
     (λ broken e. let z : ◌≡◌ {A = ℕ} 0 1 = cc (is, explained_by xs e) in absurd (omega arith))

@@ -1,13 +1,11 @@
 -- Document 02, 8/14: the field at fault in a refused chunk or segment, its bit offset, and the value found.
-use Rattle.std.specs.Prelude.{ℕ, suc, ◌+◌, ◌-◌, ◌*◌, cond, not, List, [], ◌∷◌, eqb, length}
+use Rattle.std.specs.Prelude.{ℕ, suc, ◌+◌, ◌-◌, ◌*◌, cond, not, List, [], ◌∷◌, eqb, length, Result, Ok, Err, Option, None, Some}
 use Rattle.octets.specs.Checks.{check}
 use Rattle.octets.specs.Tables.{number_at}
 use Rattle.meaning.specs.declared.Part.{Part}
 use Rattle.meaning.specs.declared.Part.TheVariants.{Header, EnsembleFields, SingleService}
 use Rattle.meaning.specs.declared.Refusal.{Refusal}
 use Rattle.meaning.specs.declared.Refusal.TheVariants.{ShortBuffer, SegmentLength, SegmentType, ErrorBit, OtherMajor, NumberAboveLast, Clash, TooLong, EndsEarly, KindDiffers, BadDesk}
-use Rattle.meaning.specs.declared.Checked.{Checked}
-use Rattle.meaning.specs.declared.Checked.TheVariants.{Fine, Fault}
 use Rattle.meaning.specs.Numbers.{checked_number}
 use Rattle.meaning.specs.Reading.{h_in, e_in, s_in, checks}
 use Rattle.segments.specs.Segment.{segment_header_bytes, place_of, number_in, last_in, payload_in, segment_checks}
@@ -18,7 +16,7 @@ use Rattle.fields.specs.declared.Table.TheVariants.{Chunk, Ensemble, Service, Se
 use Rattle.fields.specs.Fields.{widths_of, cut_in, found_in}
 use Rattle.explains.specs.declared.Field.TheVariants.{Length, Row, Payload}
 use Rattle.explains.specs.declared.Explained.{Explained}
-use Rattle.explains.specs.declared.Explained.TheVariants.{Nothing, Found, Spoiled}
+use Rattle.explains.specs.declared.Explained.TheVariants.{Found, Spoiled}
 
 -- an answer in numbers: that of the refusal which is explained, 0 where there is nothing to explain; the offset in bits, and the value found. What
 -- an answer does not say is 0
@@ -27,10 +25,10 @@ pub record ExplainedValues : Type 0 where
   pub at : ℕ
   pub value : ℕ
 
-abbrev pub explained_values : Explained → ExplainedValues
-explained_values Nothing = record { number = 0; at = 0; value = 0 }
-explained_values (Found n field at value) = record { number = n; at = at; value = value }
-explained_values Spoiled = record { number = 7; at = 0; value = 0 }
+abbrev pub explained_values : Option Explained → ExplainedValues
+explained_values None = record { number = 0; at = 0; value = 0 }
+explained_values (Some (Found n field at value)) = record { number = n; at = at; value = value }
+explained_values (Some Spoiled) = record { number = 7; at = 0; value = 0 }
 
 -- ---- what may be at fault in the bytes xs that are refused with n
 
@@ -66,25 +64,25 @@ cut_fault part at xs =
     let cut = cut_in (widths_in (table_of part) xs) (8 * (length xs - at)) in
     Found 9 (Row (table_of part) cut.row) (8 * at + cut.at) (length xs)
 
-abbrev pub chunk_fault : Refusal → List ℕ → Explained
-chunk_fault TooLong xs = length_fault 8 xs
-chunk_fault (EndsEarly part at) xs = cut_fault part at xs
-chunk_fault OtherMajor xs = row_fault 5 Chunk 0 xs  -- FIC_chunk_major_protocol_version
+abbrev pub chunk_fault : Refusal → List ℕ → Option Explained
+chunk_fault TooLong xs = Some (length_fault 8 xs)
+chunk_fault (EndsEarly part at) xs = Some (cut_fault part at xs)
+chunk_fault OtherMajor xs = Some (row_fault 5 Chunk 0 xs)  -- FIC_chunk_major_protocol_version
 -- the reader's checks give no other
-chunk_fault ShortBuffer xs = Nothing
-chunk_fault SegmentLength xs = Nothing
-chunk_fault SegmentType xs = Nothing
-chunk_fault ErrorBit xs = Nothing
-chunk_fault NumberAboveLast xs = Nothing
-chunk_fault Clash xs = Nothing
-chunk_fault KindDiffers xs = Nothing
-chunk_fault BadDesk xs = Nothing
+chunk_fault ShortBuffer xs = None
+chunk_fault SegmentLength xs = None
+chunk_fault SegmentType xs = None
+chunk_fault ErrorBit xs = None
+chunk_fault NumberAboveLast xs = None
+chunk_fault Clash xs = None
+chunk_fault KindDiffers xs = None
+chunk_fault BadDesk xs = None
 
-abbrev pub chunk_by : Checked → List ℕ → Explained
-chunk_by Fine xs = Nothing
-chunk_by (Fault f) xs = chunk_fault f xs
+abbrev pub chunk_by : Result Unit Refusal → List ℕ → Option Explained
+chunk_by (Ok _) xs = None
+chunk_by (Err f) xs = chunk_fault f xs
 
-unfoldable pub chunk_explained : List ℕ → Explained
+unfoldable pub chunk_explained : List ℕ → Option Explained
 chunk_explained xs = chunk_by (checks xs) xs
 
 -- ---- a segment: 2 to 6
@@ -102,11 +100,11 @@ abbrev pub segment_fault : ℕ → List ℕ → Explained
 segment_fault n xs = cond (eqb n 2) (length_fault 2 xs) (row_fault n Segment (segment_row n) xs)
 
 -- by the number of the checks on the segment itself, 0 where it passes them, and what there is to say then
-abbrev pub segment_by : ℕ → Explained → List ℕ → Explained
-segment_by n passed xs = cond (eqb n 0) passed (segment_fault n xs)
+abbrev pub segment_by : ℕ → Option Explained → List ℕ → Option Explained
+segment_by n passed xs = cond (eqb n 0) passed (Some (segment_fault n xs))
 
-unfoldable pub segment_explained : List ℕ → Explained
-segment_explained xs = segment_by (checked_number (segment_checks xs)) Nothing xs
+unfoldable pub segment_explained : List ℕ → Option Explained
+segment_explained xs = segment_by (checked_number (segment_checks xs)) None xs
 
 -- ---- a segment and the slot of its kind: then 7
 
@@ -127,8 +125,8 @@ clash_fault s bytes xs =
     (check (not (eqb s.last (last_in xs))) (segment_fault 7 xs)
     (payload_fault (first_differing (payload_in xs) (place_of bytes (number_in xs))) xs))
 
-abbrev pub clash_explained : Slot → List ℕ → List ℕ → Explained
-clash_explained s bytes xs = cond (clashing s bytes xs) (clash_fault s bytes xs) Nothing
+abbrev pub clash_explained : Slot → List ℕ → List ℕ → Option Explained
+clash_explained s bytes xs = cond (clashing s bytes xs) (Some (clash_fault s bytes xs)) None
 
-unfoldable pub gathered_explained : Slot → List ℕ → List ℕ → Explained
+unfoldable pub gathered_explained : Slot → List ℕ → List ℕ → Option Explained
 gathered_explained s bytes xs = segment_by (checked_number (segment_checks xs)) (clash_explained s bytes xs) xs

@@ -1,15 +1,17 @@
 // Why a chunk or a segment is refused: the field at fault, its offset in bits, and the value found there.
 #![tactic(auto)]
 
-ghost use Rattle.std.specs.Prelude.{◌≡◌, ◌+◌, ◌*◌, ◌≤◌, ◌<◌, length, get_or, take, drop};
+ghost use Rattle.std.specs.Prelude.{◌≡◌, ◌+◌, ◌*◌, ◌≤◌, ◌<◌, length, get_or, take, drop, Err};
+ghost use Rattle.octets.specs.Tables.{before};
 ghost use Rattle.meaning.specs.Sizes.{longest_chunk};
-ghost use Rattle.meaning.specs.Numbers.{checked_number};
+ghost use Rattle.meaning.specs.Numbers.{number_of};
 ghost use Rattle.meaning.specs.Reading.{checks};
-ghost use Rattle.segments.specs.Segment.{segment_bytes, payload_bytes, payload_in, segment_checks};
-ghost use Rattle.explains.specs.Explaining.{length_fault, cut_fault, chunk_fault, chunk_explained, segment_row, segment_fault, segment_explained, first_differing, payload_fault, clash_explained, gathered_explained};
+ghost use Rattle.segments.specs.Segment.{segment_bytes, payload_bytes, payload_in};
+ghost use Rattle.fields.specs.Fields.{rows_of};
+ghost use Rattle.explains.specs.Explaining.{length_fault, run_in, widths_in, row_fault, table_of, cut_fault, chunk_fault, chunk_explained, segment_row, segment_fault, segment_explained, first_differing, payload_fault, clash_explained, gathered_explained};
 
-use fields::{Place, Table};
-use meaning::{Checked, Part, Refusal};
+use fields::Table;
+use meaning::{Part, Refusal};
 use segments::{PAYLOAD_BYTES, SEGMENT_HEADER_BYTES};
 use slots::Slot;
 
@@ -21,10 +23,9 @@ pub enum Field {
     Payload,
 }
 
-// What there is to explain.
+// What is explained, where there is something to explain.
 #[derive(Clone, Copy)]
 pub enum Explained {
-    Nothing,
     // a refusal with this number
     Found {
         number: u8,
@@ -36,78 +37,79 @@ pub enum Explained {
     Spoiled,
 }
 
-// ---- a chunk
+// ---- what may be at fault in bytes that are refused
 
-// A byte of a chunk; 0 where it has none.
-fn byte_at(chunk: &[u8], at: usize) -> u8
-    ensures { result ≡ get_or chunk.now at 0 }
-{
-    if chunk.len() <= at {
-        return 0;
-    }
-    chunk[at]
-}
-
-// The length of some bytes that are refused for it.
-fn length_fault(number: u8, bytes: &[u8]) -> Explained
-    ensures { result ≡ length_fault number bytes.now }
+// Their length.
+fn length_fault(refusal: Refusal, bytes: &[u8]) -> Explained
+    ensures { result ≡ length_fault (number_of refusal) bytes.now }
 {
     Explained::Found {
-        number: number,
+        number: u8::from(refusal),
         field: Field::Length,
         at: 0,
         value: bytes.len(),
     }
 }
 
-// The major version of a chunk.
-fn major_fault(chunk: &[u8]) -> Explained
-    requires { 2 ≤ length chunk.now }
-    ensures { result ≡ chunk_fault Refusal.OtherMajor chunk.now }
+// A byte of a chunk; 0 where it has none.
+fn byte_at(chunk: &[u8], at: usize) -> u8
+    ensures { result ≡ get_or chunk.now at 0 }
 {
-    let found = fields::chunk_major(chunk[0] % 8, chunk);
+    chunk.get(at).copied().unwrap_or(0)
+}
+
+// How many extension bytes a table has in a chunk or segment.
+fn run_in(table: Table, bytes: &[u8]) -> u8
+    ensures value { result ≡ run_in table bytes.now }
+    ensures upper_bound { result < 8 }
+{
+    match table {
+        Table::Chunk => byte_at(bytes, 0) % 8,
+        Table::Ensemble => byte_at(bytes, 1) / 32,
+        Table::Service => byte_at(bytes, 1) / 4 % 8,
+        Table::Segment => 0,
+    }
+}
+
+// A row of the table that they begin with.
+fn row_fault(refusal: Refusal, table: Table, row: u8, bytes: &[u8]) -> Explained
+    requires { (row < length (rows_of table)) × (get_or (widths_in table bytes.now) row 0 ≤ 16) × (before row (widths_in table bytes.now) + get_or (widths_in table bytes.now) row 0 ≤ 8 * length bytes.now) }
+    ensures { result ≡ row_fault (number_of refusal) table row bytes.now }
+{
+    let found = fields::row_found(table, run_in(table, bytes), row, bytes);
     Explained::Found {
-        number: 5,
-        field: Field::Row {
-            table: Table::Chunk,
-            row: 0,
-        },
+        number: u8::from(refusal),
+        field: Field::Row { table, row },
         at: found.at,
         value: found.value,
     }
 }
 
-// The first row that is not whole of the part at this offset of a chunk that ends early.
+// ---- a chunk
+
+// The table of what does not fit whole.
+fn table_of(part: Part) -> Table
+    ensures { result ≡ table_of part }
+{
+    match part {
+        Part::Header => Table::Chunk,
+        Part::EnsembleFields => Table::Ensemble,
+        Part::SingleService => Table::Service,
+    }
+}
+
+// The first row that is not whole of the part at this offset of a chunk that ends early; the row's offset counts from the chunk's start.
 fn cut_fault(part: Part, at: u16, chunk: &[u8]) -> Explained
     requires { (at ≤ length chunk.now) × (length chunk.now ≤ longest_chunk) }
     ensures { result ≡ cut_fault part at chunk.now }
 {
+    let table = table_of(part);
     let bits = 8 * (chunk.len() - at as usize);
-    match part {
-        Part::Header => {
-            let place = fields::chunk_cut(byte_at(chunk, 0) % 8, bits);
-            cut_at(Table::Chunk, place, at, chunk)
-        }
-        Part::EnsembleFields => {
-            let place = fields::ensemble_cut(byte_at(chunk, 1) / 32, bits);
-            cut_at(Table::Ensemble, place, at, chunk)
-        }
-        Part::SingleService => {
-            let place = fields::service_cut(byte_at(chunk, 1) / 4 % 8, bits);
-            cut_at(Table::Service, place, at, chunk)
-        }
-    }
-}
-
-// That row, as it is told: its offset counts from the chunk's start.
-fn cut_at(table: Table, place: Place, at: u16, chunk: &[u8]) -> Explained
-    requires { (place.at ≤ 4080) × (at ≤ longest_chunk) }
-    ensures { result ≡ Explained.Found 9 (Field.Row table place.row) (8 * at + place.at) (length chunk.now) }
-{
+    let place = fields::cut(table, run_in(table, chunk), bits);
     Explained::Found {
         number: 9,
         field: Field::Row {
-            table: table,
+            table,
             row: place.row,
         },
         at: 8 * at + place.at,
@@ -116,91 +118,63 @@ fn cut_at(table: Table, place: Place, at: u16, chunk: &[u8]) -> Explained
 }
 
 // What is at fault in a chunk that the reader's checks refuse so.
-fn chunk_fault(refusal: Refusal, chunk: &[u8]) -> Explained
-    requires { checks chunk.now ≡ Checked.Fault refusal }
+fn chunk_fault(refusal: Refusal, chunk: &[u8]) -> Option<Explained>
+    requires { checks chunk.now ≡ Err refusal }
     ensures { result ≡ chunk_fault refusal chunk.now }
 {
     match refusal {
-        Refusal::TooLong => length_fault(8, chunk),
-        Refusal::EndsEarly { part, at } => cut_fault(part, at, chunk),
-        Refusal::OtherMajor => major_fault(chunk),
-        Refusal::ShortBuffer => Explained::Nothing,
-        Refusal::SegmentLength => Explained::Nothing,
-        Refusal::SegmentType => Explained::Nothing,
-        Refusal::ErrorBit => Explained::Nothing,
-        Refusal::NumberAboveLast => Explained::Nothing,
-        Refusal::Clash => Explained::Nothing,
-        Refusal::KindDiffers => Explained::Nothing,
-        Refusal::BadDesk => Explained::Nothing,
+        Refusal::TooLong => Some(length_fault(refusal, chunk)),
+        Refusal::EndsEarly { part, at } => Some(cut_fault(part, at, chunk)),
+        Refusal::OtherMajor => Some(row_fault(refusal, Table::Chunk, 0, chunk)),
+        _ => None,
     }
 }
 
 // Why the reader would refuse a chunk, its buffer long enough.
-pub fn explain_chunk(chunk: &[u8]) -> Explained
+pub fn explain_chunk(chunk: &[u8]) -> Option<Explained>
     ensures { result ≡ chunk_explained chunk.now }
 {
     match chunk_checks::check_chunk(chunk) {
-        Checked::Fine => Explained::Nothing,
-        Checked::Fault(refusal) => chunk_fault(refusal, chunk),
+        Ok(()) => None,
+        Err(refusal) => chunk_fault(refusal, chunk),
     }
 }
 
 // ---- a segment
 
-// The number of the checks on a segment itself, 0 where it passes them.
-fn number_for(seg: &[u8]) -> u8
-    ensures { result ≡ checked_number (segment_checks seg.now) }
-{
-    match segments::check_segment(seg) {
-        Checked::Fine => 0,
-        Checked::Fault(refusal) => meaning::number_of(refusal),
-    }
-}
-
-// The row of its table that a number is about.
-fn segment_row(number: u8) -> u8
-    ensures value { result ≡ segment_row number }
+// The row of its table that a refusal is about.
+fn segment_row(refusal: Refusal) -> u8
+    ensures value { result ≡ segment_row (number_of refusal) }
     ensures upper_bound { result < 8 }
 {
-    match number {
-        3 => 0,
-        4 => 5,
-        5 => 3,
-        6 => 6,
+    match refusal {
+        Refusal::SegmentType => 0,
+        Refusal::ErrorBit => 5,
+        Refusal::OtherMajor => 3,
+        Refusal::NumberAboveLast => 6,
         _ => 7,
     }
 }
 
-// What is at fault in a segment that is refused with this number.
-fn segment_fault(number: u8, seg: &[u8]) -> Explained
-    requires { (number ≡ 2 → ⊥) → 2 ≤ length seg.now }
-    ensures { result ≡ segment_fault number seg.now }
+// What is at fault in a segment that is refused so.
+fn segment_fault(refusal: Refusal, seg: &[u8]) -> Explained
+    requires { (refusal ≡ Refusal.SegmentLength → ⊥) → 2 ≤ length seg.now }
+    ensures { result ≡ segment_fault (number_of refusal) seg.now }
 {
-    if number == 2 {
-        return length_fault(2, seg);
-    }
-    let row = segment_row(number);
-    let found = fields::segment_row(row, seg);
-    Explained::Found {
-        number: number,
-        field: Field::Row {
-            table: Table::Segment,
-            row: row,
-        },
-        at: found.at,
-        value: found.value,
+    match refusal {
+        Refusal::SegmentLength => length_fault(refusal, seg),
+        _ => row_fault(refusal, Table::Segment, segment_row(refusal), seg),
     }
 }
 
 // Why a segment would be refused for its own length or header.
-pub fn explain_segment(seg: &[u8]) -> Explained
+pub fn explain_segment(seg: &[u8]) -> Option<Explained>
     ensures { result ≡ segment_explained seg.now }
 {
-    let number = number_for(seg);
-    if number == 0 {
-        return Explained::Nothing;
+    match segments::check_segment(seg) {
+        Ok(()) => None,
+        Err(refusal) => Some(segment_fault(refusal, seg)),
     }
-    segment_fault(number, seg)
 }
 
 // ---- a segment and the slot of its kind
@@ -211,8 +185,7 @@ fn first_differing(seg: &[u8], bytes: &[u8], from: usize) -> usize
     ensures value { result ≡ first_differing (payload_in seg.now) (take payload_bytes (drop from bytes.now)) }
     ensures upper_bound { result ≤ payload_bytes }
 {
-    let mut i = 0;
-    while i < PAYLOAD_BYTES {
+    for i in 0..PAYLOAD_BYTES {
         let place = from + i;
         if bytes.len() <= place {
             return i;
@@ -220,9 +193,8 @@ fn first_differing(seg: &[u8], bytes: &[u8], from: usize) -> usize
         if bytes[place] != seg[SEGMENT_HEADER_BYTES + i] {
             return i;
         }
-        i += 1;
     }
-    i
+    PAYLOAD_BYTES
 }
 
 // A byte of a segment's payload.
@@ -241,38 +213,37 @@ fn payload_fault(i: usize, seg: &[u8]) -> Explained
 }
 
 // Why the slot of its kind would refuse a segment that passes the checks on itself.
-fn explain_clash(seg: &[u8], slot: Slot, bytes: &[u8]) -> Explained
+fn explain_clash(seg: &[u8], slot: Slot, bytes: &[u8]) -> Option<Explained>
     requires { length seg.now ≡ segment_bytes }
     ensures { result ≡ clash_explained slot bytes.now seg.now }
 {
     if slot.spoiled {
-        return Explained::Spoiled;
+        return Some(Explained::Spoiled);
     }
     if slot.held == 0 {
-        return Explained::Nothing;
+        return None;
     }
     let second = seg[1];
     if slot.last != second % 16 {
-        return segment_fault(7, seg);
+        return Some(segment_fault(Refusal::Clash, seg));
     }
     let place = second / 16;
     if !slots::holds(slot.held, place) {
-        return Explained::Nothing;
+        return None;
     }
     let i = first_differing(seg, bytes, PAYLOAD_BYTES * place as usize);
     if i == PAYLOAD_BYTES {
-        return Explained::Nothing;
+        return None;
     }
-    payload_fault(i, seg)
+    Some(payload_fault(i, seg))
 }
 
 // Why a segment would be refused for its own length or header, or by the slot of its kind, whose numbers and bytes may be any.
-pub fn explain_gathered(seg: &[u8], slot: Slot, bytes: &[u8]) -> Explained
+pub fn explain_gathered(seg: &[u8], slot: Slot, bytes: &[u8]) -> Option<Explained>
     ensures { result ≡ gathered_explained slot bytes.now seg.now }
 {
-    let number = number_for(seg);
-    if number == 0 {
-        return explain_clash(seg, slot, bytes);
+    match segments::check_segment(seg) {
+        Ok(()) => explain_clash(seg, slot, bytes),
+        Err(refusal) => Some(segment_fault(refusal, seg)),
     }
-    segment_fault(number, seg)
 }

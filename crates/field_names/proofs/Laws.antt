@@ -1,9 +1,9 @@
--- Laws of the names: none past a table's last row, and none longer than 37 bytes. Assumes nothing.
+-- Laws of the names: they are those of the rows in order, and none is longer than 37 bytes. Assumes nothing.
 use mathlib.Core.Path.{◌≡◌, refl}
-use mathlib.Core.List.{List, [], ◌∷◌}
+use mathlib.Core.List.{List, [], ◌∷◌, map}
 use Prim.Native.Nat.{ℕ, zero, suc, ◌≤◌, max}
 use native.Mathlib.Omega.{arith}
-use lib.ListN.{length}
+use lib.ListN.{length, get_or}
 use Rattle.octets.specs.Tables.{Row, name_for}
 use Rattle.text.specs.Text.{text}
 use Rattle.fields.specs.declared.Table.{Table}
@@ -11,24 +11,12 @@ use Rattle.fields.specs.declared.Table.TheVariants.{Chunk, Ensemble, Service, Se
 use Rattle.fields.specs.Fields.{rows_of}
 use Rattle.field_names.specs.Names.{name_in, name_of}
 
--- ---- past the last row
+-- ---- the name of a row among those of all rows
 
--- i is none of the first n numbers, as a match says it of what no arm names
-abbrev pub Past : ℕ → ℕ → Type 0
-Past zero i = Unit {0}
-Past (suc n) i = Past n i × (i ≡ n → ⊥)
-
-past_le : (n i : ℕ) → Past n i → n ≤ i
-past_le zero i p = omega arith
-past_le (suc n) i p = omega (arith, past_le n i p.0)
-
-none_in : (rows : List Row) (i : ℕ) → length rows ≤ i → name_in rows i ≡ []
-none_in [] i h = refl
-none_in (r ∷ rows) zero h = absurd (omega arith)
-none_in (r ∷ rows) (suc i) h = none_in rows i (omega arith)
-
-pub name_none : (t : Table) (i : ℕ) → Past (length (rows_of t)) i → name_of t i ≡ []
-name_none t i p = none_in (rows_of t) i (past_le (length (rows_of t)) i p)
+pub name-among : (rows : List Row) (i : ℕ) → get_or (map (λ row. text (name_for row)) rows) i [] ≡ name_in rows i
+name-among [] i = refl
+name-among (r ∷ rows) zero = refl
+name-among (r ∷ rows) (suc i) = name-among rows i
 
 -- ---- the longest
 

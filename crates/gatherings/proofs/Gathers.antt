@@ -5,6 +5,8 @@ use mathlib.Core.List.{List, ◌++◌}
 use Prim.Native.Nat.{ℕ, suc, ◌-◌, ◌*◌, ◌≤◌, ◌<◌}
 use lib.ListN.{length, drop}
 use lib.Count.{ones}
+use Rattle.std.proofs.Common.{Result, Ok}
+use Rattle.meaning.specs.declared.Refusal.{Refusal}
 use Rattle.meaning.specs.declared.Kind.{Kind}
 use Rattle.meaning.specs.declared.Kind.TheVariants.{This, Next}
 use Rattle.meaning.specs.Sizes.{longest_listing}
@@ -76,7 +78,7 @@ module _ {n : ℕ} {whole : List ℕ} {k : Kind} {i : ℕ} {xs : List ℕ} (p : 
   piece_comes e = rw e (segment_comes d xs first second k p.kind (record { formed = g.formed; left = one; right = two }) p.passes)
 
   -- one that is held changes nothing
-  pub piece-repeat : holds held i ≡ true → result ≡ after (Missing (n - ones held)) d first second
+  pub piece-repeat : holds held i ≡ true → result ≡ after (Ok (Missing (n - ones held))) d first second
   piece-repeat t = missing_unchanged k d first second result (piece_comes (gathered_held p before g.only fits t))
 
   -- one that is not held is held then
@@ -84,21 +86,21 @@ module _ {n : ℕ} {whole : List ℕ} {k : Kind} {i : ℕ} {xs : List ℕ} (p : 
     abbrev more : Side
     more = hold xs before
 
-    piece_held : {a : Answer} {buffer : List ℕ} → Takes k d first second (outcome a (side more.slot more.bytes buffer)) result → (result.answer ≡ a) × Gathers n whole k result.desk × ((slot_for k result.desk.notes).held ≡ including held i)
+    piece_held : {a : Result Answer Refusal} {buffer : List ℕ} → Takes k d first second (outcome a (side more.slot more.bytes buffer)) result → (result.answer ≡ a) × Gathers n whole k result.desk × ((slot_for k result.desk.notes).held ≡ including held i)
     piece_held h = (
       h.answer,
       record { formed = segment-fits d xs first second g.formed; only = rw (h.slot, h.bytes) (hold_pieces p before g.only fits free) },
       rw (h.slot, p.number) refl,
     )
 
-    pub piece_more : suc (ones held) < n → (result.answer ≡ Missing (n - suc (ones held))) × Gathers n whole k result.desk × ((slot_for k result.desk.notes).held ≡ including held i) × (length_for k result.desk.notes ≡ length_for k d.notes) × (result.first ≡ first) × (result.second ≡ second)
+    pub piece_more : suc (ones held) < n → (result.answer ≡ Ok (Missing (n - suc (ones held)))) × Gathers n whole k result.desk × ((slot_for k result.desk.notes).held ≡ including held i) × (length_for k result.desk.notes ≡ length_for k d.notes) × (result.first ≡ first) × (result.second ≡ second)
     piece_more l =
         let h = piece_comes (gathered_free p before g.only fits free l) in
         let q = piece_held h in
         let b = unlisted_becomes h (λ m. refl) refl in
         (q.0, q.1, q.2, b.2, b.3, b.4)
 
-    pub piece_last : {m : ℕ} {l : FicList} → length whole ≡ payload_bytes * n → Accepts whole k m l → suc (ones held) ≡ n → (result.answer ≡ NewList k (length (listing l))) × Gathers n whole k result.desk × ((slot_for k result.desk.notes).held ≡ including held i) × (length_for k result.desk.notes ≡ length (listing l)) × (lent_for k swapped result.first result.second ≡ listing l ++ drop (length (listing l)) (lent_for k swapped first second))
+    pub piece_last : {m : ℕ} {l : FicList} → length whole ≡ payload_bytes * n → Accepts whole k m l → suc (ones held) ≡ n → (result.answer ≡ Ok (NewList k (length (listing l)))) × Gathers n whole k result.desk × ((slot_for k result.desk.notes).held ≡ including held i) × (length_for k result.desk.notes ≡ length (listing l)) × (lent_for k swapped result.first result.second ≡ listing l ++ drop (length (listing l)) (lent_for k swapped first second))
     piece_last size accepts all =
         let h = piece_comes (gathered_all p before g.only fits free size accepts all) in
         let q = piece_held h in

@@ -7,9 +7,11 @@ use native.Mathlib.Omega.{arith}
 use borrow.Author.Tests.{eqb-false}
 use lib.Dec.{T, eqb}
 use lib.ListN.{length}
+use Rattle.std.proofs.Common.{Result}
 use Rattle.octets.specs.Each.{Each}
 use Rattle.octets.specs.Checks.{among}
 use Rattle.octets.proofs.Laws.{either}
+use Rattle.meaning.specs.declared.Refusal.{Refusal}
 use Rattle.meaning.specs.declared.Kind.{Kind}
 use Rattle.meaning.specs.Sizes.{longest_listing}
 use Rattle.meaning.specs.Lists.{FicList}
@@ -59,7 +61,7 @@ module _ {ys : List ℕ} {k : Kind} {m : ℕ} {l : FicList} {c : Choice} (carrie
         let kept = called-kept d call first second (cut-piece carries suits i (omega arith)).kind in
         let t = order_told j (suc i) (omega arith) swapped r.desk r.first r.second (kept.4 ∙ roles) in
         let same = subst (λ (s : Bool). lent_for (other_kind k) s r.first r.second ≡ lent_for (other_kind k) s first second) roles kept.3 in
-        (ap (λ (x : List Answer). r.answer ∷ x) t.0, t.1 ∙ same)
+        (ap (λ (x : List (Result Answer Refusal)). r.answer ∷ x) t.0, t.1 ∙ same)
 
   pub cut_delivered : (d : Desk) → AtStart d → (first second : List ℕ) → longest_listing ≤ length first → longest_listing ≤ length second → let s = state d first second in ComesInOrder k (listing l) (segment_count (length ys)) d.notes.swapped first second (ran s (map (wholly s) (cut ys c)))
   unfolding piece_of

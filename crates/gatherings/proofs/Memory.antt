@@ -6,6 +6,8 @@ use Prim.Native.Nat.{ℕ, ◌≤◌}
 use native.Mathlib.Omega.{arith}
 use lib.ListN.{length, take, drop, length-append, take-append-drop}
 use lib.Seq.{length_front, drop-append-le}
+use Rattle.std.proofs.Common.{Result}
+use Rattle.meaning.specs.declared.Refusal.{Refusal}
 use Rattle.meaning.specs.declared.Kind.{Kind}
 use Rattle.meaning.specs.Sizes.{longest_listing}
 use Rattle.segments.specs.Segment.{segment_kind}
@@ -60,7 +62,7 @@ module _ (d : Desk) (c : Lending) (first second : List ℕ) where
   abbrev result : After
   result = segment_after d c.segment one two
 
-  pub wide_unchanged : (a : Answer) → wide c first second (after a d (take c.first first) (take c.second second)) ≡ after a d first second
+  pub wide_unchanged : (a : Result Answer Refusal) → wide c first second (after a d (take c.first first) (take c.second second)) ≡ after a d first second
   wide_unchanged a = ap₂ (λ (x y : List ℕ). after a d x y) (take-append-drop c.first first) (take-append-drop c.second second)
 
   pub called_lent : {swapped : Bool} → Lent swapped d first second → let r = called d c first second in Lent swapped r.desk r.first r.second

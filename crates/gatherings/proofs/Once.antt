@@ -8,10 +8,12 @@ use native.Mathlib.Omega.{arith}
 use borrow.Author.Tests.{eq-eqb, ne_eqb, eqb-true, eqb-false}
 use lib.Dec.{T, eqb}
 use lib.ListN.{length, drop}
+use Rattle.std.proofs.Common.{Result}
 use Rattle.octets.specs.Bits.{Bytes}
 use Rattle.octets.specs.Each.{Each}
 use Rattle.octets.specs.Checks.{among}
 use Rattle.octets.proofs.Laws.{either}
+use Rattle.meaning.specs.declared.Refusal.{Refusal}
 use Rattle.meaning.specs.declared.Kind.{Kind}
 use Rattle.meaning.specs.Lists.{FicList, current_of}
 use Rattle.meaning.specs.Layout.{Carries}
@@ -38,7 +40,7 @@ use Rattle.gatherings.proofs.Stands.{Stands, start-stands, all_shown, kept-stand
 abbrev done : ℕ → List ℕ → ℕ
 done n came = cond (eqb (different came) n) 1 0
 
-answer-counted : (n : ℕ) (k : Kind) (size : ℕ) (came : List ℕ) → Each (λ j. j < n) came → (i : ℕ) → i < n → (more : List Answer) → done n came + lists_of k (piece_answer n k size came i ∷ more) ≡ done n (i ∷ came) + lists_of k more
+answer-counted : (n : ℕ) (k : Kind) (size : ℕ) (came : List ℕ) → Each (λ j. j < n) came → (i : ℕ) → i < n → (more : List (Result Answer Refusal)) → done n came + lists_of k (piece_answer n k size came i ∷ more) ≡ done n (i ∷ came) + lists_of k more
 answer-counted n k size came inside i l more =
     either (among came i) (λ q. simp q)
     (λ q.
@@ -82,7 +84,7 @@ module _ {ys : List ℕ} {k : Kind} {m : ℕ} {l : FicList} (h : Carries ys k m 
       record { reserved = λ j. ok.1; wake = λ j. ok.2; bytes = bytes; whole = whole } in
       let p = piece_goes whole (carried-accepted (cut-carried h suits)) came inside s c ok.3 ok.4 i (cut-piece h suits i ok.0) ok.0 in
       let r : After = called d c first second in
-      let rest : List Answer = answers_of (ran (state r.desk r.first r.second) (map (call_for ys fill) ds)).told in
+      let rest : List (Result Answer Refusal) = answers_of (ran (state r.desk r.first r.second) (map (call_for ys fill) ds)).told in
       let t =
       deliveries_end ds allowed.1 (i ∷ came) (ok.0, inside)
       (λ j l.
@@ -90,7 +92,7 @@ module _ {ys : List ℕ} {k : Kind} {m : ℕ} {l : FicList} (h : Carries ys k m 
       ap (λ (x : Bool). x || after) (or_comm (eqb j i) (among came j)) ∙ or_assoc (among came j) (eqb j i) after ∙ every j l)
       r.desk r.first r.second p.1 in (
         ap₂ ◌∷◌ p.0 t.0,
-        ap (λ (x : Answer). done n came + lists_of k (x ∷ rest)) p.0
+        ap (λ (x : Result Answer Refusal). done n came + lists_of k (x ∷ rest)) p.0
             ∙ answer-counted n k (length xs) came inside i ok.0 rest
             ∙ t.1,
         t.2,
@@ -100,7 +102,7 @@ module _ {ys : List ℕ} {k : Kind} {m : ℕ} {l : FicList} (h : Carries ys k m 
       let c : Lending = lending_for ys fill (other zs a b) in
       let o = other-called k d c first second allowed.0 in
       let r : After = called d c first second in
-      let rest : List Answer = answers_of (ran (state r.desk r.first r.second) (map (call_for ys fill) ds)).told in
+      let rest : List (Result Answer Refusal) = answers_of (ran (state r.desk r.first r.second) (map (call_for ys fill) ds)).told in
       let t = deliveries_end ds allowed.1 came inside every r.desk r.first r.second (kept-stands s c o.0) in
       (t.0, ap (λ (x : ℕ). done n came + x) (o.1 rest) ∙ t.1, t.2, t.3)
 

@@ -8,17 +8,16 @@ use Prim.Native.Nat.{ℕ, ◌+◌}
 use native.Mathlib.Omega.{arith}
 use lib.Dec.{eqb}
 use lib.ListN.{take}
+use Rattle.std.proofs.Common.{Result, Ok, Err}
 use Rattle.octets.proofs.Laws.{either}
 use Rattle.meaning.specs.declared.Kind.{Kind}
 use Rattle.meaning.specs.declared.Kind.TheVariants.{This, Next}
 use Rattle.meaning.specs.declared.Refusal.{Refusal}
 use Rattle.meaning.specs.declared.Refusal.TheVariants.{ShortBuffer, BadDesk}
-use Rattle.meaning.specs.declared.Checked.{Checked}
-use Rattle.meaning.specs.declared.Checked.TheVariants.{Fine, Fault}
 use Rattle.meaning.specs.Lists.{current_of}
 use Rattle.segments.specs.Segment.{segment_kind, segment_checks}
 use Rattle.slots.specs.declared.Answer.{Answer}
-use Rattle.slots.specs.declared.Answer.TheVariants.{Missing, NewList, Refused}
+use Rattle.slots.specs.declared.Answer.TheVariants.{Missing, NewList}
 use Rattle.notes.specs.Notes.{other_kind, too_short}
 use Rattle.desk.specs.declared.Desk.{Desk}
 use Rattle.desk.specs.Desks.{well_formed, After, after, segment_after}
@@ -37,34 +36,34 @@ other-apart This = refl
 other-apart Next = refl
 
 -- the answer is no list of the kind k
-abbrev pub Unlisted : Kind → Answer → Type 0
-Unlisted k a = (more : List Answer) → lists_of k (a ∷ more) ≡ lists_of k more
+abbrev pub Unlisted : Kind → Result Answer Refusal → Type 0
+Unlisted k a = (more : List (Result Answer Refusal)) → lists_of k (a ∷ more) ≡ lists_of k more
 
 module _ (k : Kind) where
-  other_unlisted : (a : Answer) → ((j : Kind) (n : ℕ) → a ≡ NewList j n → j ≡ other_kind k) → Unlisted k a
-  other_unlisted (Missing n) h more = refl
-  other_unlisted (NewList j n) h more =
+  other_unlisted : (a : Result Answer Refusal) → ((j : Kind) (n : ℕ) → a ≡ Ok (NewList j n) → j ≡ other_kind k) → Unlisted k a
+  other_unlisted (Ok (Missing n)) h more = refl
+  other_unlisted (Ok (NewList j n)) h more =
       ap (λ (i : Kind). cond (eqb (current_of i) (current_of k)) 1 0 + lists_of k more) (h j n refl)
       ∙ simp (other-apart k) (omega arith)
-  other_unlisted (Refused f) h more = refl
+  other_unlisted (Err f) h more = refl
 
 -- a segment that does not pass its own checks changes nothing
-refused_unchanged : (d : Desk) (xs first second : List ℕ) → (segment_checks xs ≡ Fine → ⊥) → (P : After → Type 0) → ((f : Refusal) → P (after (Refused f) d first second)) → P (segment_after d xs first second)
+refused_unchanged : (d : Desk) (xs first second : List ℕ) → (segment_checks xs ≡ Ok tt → ⊥) → (P : After → Type 0) → ((f : Refusal) → P (after (Err f) d first second)) → P (segment_after d xs first second)
 unfolding segment_after
 refused_unchanged d xs first second bad P refused =
     either (well_formed d)
     (λ w. either (too_short first || too_short second) (λ s. simp (w, s) (refused ShortBuffer)) (λ s. go w s (segment_checks xs) refl))
     (λ w. simp w (refused BadDesk))
   where
-    go : well_formed d ≡ true → too_short first || too_short second ≡ false → (v : Checked) → segment_checks xs ≡ v → P (segment_after d xs first second)
-    go w s (Fault f) e = simp (w, s, e) (refused f)
-    go w s Fine e = absurd (bad e)
+    go : well_formed d ≡ true → too_short first || too_short second ≡ false → (v : Result Unit Refusal) → segment_checks xs ≡ v → P (segment_after d xs first second)
+    go w s (Err f) e = simp (w, s, e) (refused f)
+    go w s (Ok _) e = absurd (bad e)
 
 module _ (k : Kind) (d : Desk) (c : Lending) (first second : List ℕ) where
   abbrev Aside : After → Type 0
   Aside r = Kept d.notes.swapped k d first second r × Unlisted k r.answer
 
-  pub other-called : (segment_kind c.segment ≡ other_kind k) ⊎ (segment_checks c.segment ≡ Fine → ⊥) → let r = called d c first second in Kept d.notes.swapped k d first second r × Unlisted k r.answer
+  pub other-called : (segment_kind c.segment ≡ other_kind k) ⊎ (segment_checks c.segment ≡ Ok tt → ⊥) → let r = called d c first second in Kept d.notes.swapped k d first second r × Unlisted k r.answer
   other-called (inl e) =
       let r : After = called d c first second in (
         subst (λ (j : Kind). Kept d.notes.swapped j d first second r) (other_twice k) (called-kept d c first second e),
@@ -72,4 +71,4 @@ module _ (k : Kind) (d : Desk) (c : Lending) (first second : List ℕ) where
       )
   other-called (inr bad) =
       refused_unchanged d c.segment (take c.first first) (take c.second second) bad (λ r. Aside (wide c first second r))
-      (λ f. subst Aside (sym (wide_unchanged d c first second (Refused f))) ((refl, refl, refl, refl, refl), λ more. refl))
+      (λ f. subst Aside (sym (wide_unchanged d c first second (Err f))) ((refl, refl, refl, refl, refl), λ more. refl))

@@ -9,10 +9,10 @@ use lib.Dec.{eqb}
 use lib.ListN.{length, get_or, take, drop, length-drop}
 use lib.Seq.{take_all}
 use lib.Count.{ones}
+use Rattle.std.proofs.Common.{Ok}
 use Rattle.octets.specs.Same.{same}
 use Rattle.octets.proofs.Laws.{either, same_refl}
 use Rattle.meaning.specs.declared.Kind.{Kind}
-use Rattle.meaning.specs.declared.Checked.TheVariants.{Fine}
 use Rattle.meaning.specs.Lists.{FicList, current_of}
 use Rattle.meaning.specs.Listing.{listing}
 use Rattle.meaning.specs.Reading.{checks, kind_in, list_in, Accepts}
@@ -36,7 +36,7 @@ holds_some held i t z = true≢false (sym t ∙ ap (λ (n : ℕ). holds n i) z �
 
 -- the segment xs is the piece with the number i, of the kind k
 pub record Piece (n : ℕ) (whole : List ℕ) (k : Kind) (i : ℕ) (xs : List ℕ) : Type 0 where
-  pub passes : segment_checks xs ≡ Fine
+  pub passes : segment_checks xs ≡ Ok tt
   pub kind : segment_kind xs ≡ k
   pub number : number_in xs ≡ i
   pub last : last_in xs + 1 ≡ n
@@ -79,7 +79,7 @@ module _ {n : ℕ} {whole : List ℕ} {k : Kind} {i : ℕ} {xs : List ℕ} (p : 
       (λ f. simp (h.sound, z, eq-eqb _ _ last, f)))
 
   -- one that is held
-  pub gathered_held : holds held i ≡ true → outcome (Missing (n - ones held)) s ≡ gathered k xs s
+  pub gathered_held : holds held i ≡ true → outcome (Ok (Missing (n - ones held))) s ≡ gathered k xs s
   gathered_held t =
       gathered-repeat k xs s no_clash (n - ones held) (ap (holds held) p.number ∙ t)
       (ap (λ (m : ℕ). m - ones held) (sym (h.last (holds_some held i t))))
@@ -117,9 +117,9 @@ module _ {n : ℕ} {whole : List ℕ} {k : Kind} {i : ℕ} {xs : List ℕ} (p : 
     pub missing_less : missing_in (holding s.slot xs) ≡ n - suc (ones held)
     missing_less = ap₂ ◌-◌ p.last more_held
 
-    pub gathered_free : suc (ones held) < n → outcome (Missing (n - suc (ones held))) (hold xs s) ≡ gathered k xs s
+    pub gathered_free : suc (ones held) < n → outcome (Ok (Missing (n - suc (ones held)))) (hold xs s) ≡ gathered k xs s
     gathered_free l =
-        ap (λ (m : ℕ). outcome (Missing m) (hold xs s)) (sym missing_less)
+        ap (λ (m : ℕ). outcome (Ok (Missing m)) (hold xs s)) (sym missing_less)
         ∙ gathered_more k xs s no_clash free_there (2 ^ number_in xs) refl (missing_in (holding s.slot xs)) refl (hold xs s).bytes refl (λ z. omega (arith, missing_less))
 
     -- the last one
@@ -132,7 +132,7 @@ module _ {n : ℕ} {whole : List ℕ} {k : Kind} {i : ℕ} {xs : List ℕ} (p : 
           (more_held ∙ all)
           (omega (arith, size))
 
-      pub gathered_all : outcome (NewList k (length (listing l))) (side (holding s.slot xs) (hold xs s).bytes (listing l ++ drop (length (listing l)) s.buffer)) ≡ gathered k xs s
+      pub gathered_all : outcome (Ok (NewList k (length (listing l)))) (side (holding s.slot xs) (hold xs s).bytes (listing l ++ drop (length (listing l)) s.buffer)) ≡ gathered k xs s
       gathered_all =
           let chunk : List ℕ = chunk_in (hold xs s) in
           let list : list_in chunk ≡ l = ap list_in chunk_whole ∙ accepts.list in
@@ -140,6 +140,6 @@ module _ {n : ℕ} {whole : List ℕ} {k : Kind} {i : ℕ} {xs : List ℕ} (p : 
           let current : get_or chunk 1 0 % 2 ≡ current_of k = sym (current-kind (get_or chunk 1 0 % 2) (omega arith)) ∙ ap current_of kind in
           (λ j.
           let t = listing (sym list j) in
-          outcome (NewList k (length t)) (side (holding s.slot xs) (hold xs s).bytes (t ++ drop (length t) s.buffer)))
+          outcome (Ok (NewList k (length t))) (side (holding s.slot xs) (hold xs s).bytes (t ++ drop (length t) s.buffer)))
           ∙ sym (completed_listed k (hold xs s) (ap checks chunk_whole ∙ accepts.passes) current)
           ∙ gathered_last k xs s no_clash free_there (2 ^ number_in xs) refl 0 (omega (arith, missing_less)) (hold xs s).bytes refl (completed k (hold xs s)) refl refl

@@ -8,6 +8,7 @@ use borrow.Author.Tests.{ne_eqb}
 use lib.Dec.{eqb, eqb-suc-zero}
 use lib.ListN.{length, take, drop, length-append}
 use lib.Seq.{take_at, drop_at}
+use Rattle.std.proofs.Common.{Result, Ok}
 use Rattle.octets.specs.Bits.{Bytes}
 use Rattle.octets.specs.Each.{Each}
 use Rattle.octets.specs.Checks.{among}
@@ -17,6 +18,7 @@ use Rattle.records.specs.declared.Entry.TheVariants.{End, Whole}
 use Rattle.records.specs.Records.{mark_bytes, mark_in, mark_of, entry_in, is_whole, size_of, Record, record_in, File, file_in, last_line}
 use Rattle.records.proofs.Entries.{mark_first, shape_entry}
 use Rattle.records.proofs.Transcripts.{file_record, file_none}
+use Rattle.meaning.specs.declared.Refusal.{Refusal}
 use Rattle.meaning.specs.declared.Kind.{Kind}
 use Rattle.meaning.specs.Sizes.{longest_chunk, longest_listing}
 use Rattle.meaning.specs.Lists.{FicList}
@@ -88,14 +90,14 @@ calls_same s (x ∷ more) = ap (λ (cs : List Call). wholly s x ∷ cs) (calls_s
 -- ---- segments whose answers are those of n pieces in order, the listing xs being shown then
 
 module _ (k : Kind) (xs : List ℕ) (n : ℕ) where
-  abbrev answers : List ℕ → ℕ → ℕ → List Answer
+  abbrev answers : List ℕ → ℕ → ℕ → List (Result Answer Refusal)
   answers came i j = piece_answers n k (length xs) came (up_from i j)
 
-  abbrev lines : List Answer → List ℕ
+  abbrev lines : List (Result Answer Refusal) → List ℕ
   lines told = flat_map (λ a. answer_lines a xs) told
 
   -- j + 1 pieces are missing before the piece i
-  answer_next : (j i : ℕ) (came : List ℕ) → i + suc j ≡ n → different came ≡ i → among came i ≡ false → piece_answer n k (length xs) came i ≡ cond (eqb j 0) (NewList k (length xs)) (Missing j)
+  answer_next : (j i : ℕ) (came : List ℕ) → i + suc j ≡ n → different came ≡ i → among came i ≡ false → piece_answer n k (length xs) came i ≡ cond (eqb j 0) (Ok (NewList k (length xs))) (Ok (Missing j))
   answer_next j i came e count free =
       let missing : n - suc i ≡ j = omega arith in
       simp (free, count, missing)
@@ -115,10 +117,10 @@ module _ (k : Kind) (xs : List ℕ) (n : ℕ) where
     told_lines (suc (suc j)) i came e count above t (x ∷ more) is shows =
         let free = above i (omega arith) in
         let head = head-eq_of_cons-eq is in
-        let few : piece_answer n k (length xs) came i ≡ Missing (suc j) = simp (eqb-suc-zero j) at (answer_next (suc j) i came e count free) in
+        let few : piece_answer n k (length xs) came i ≡ Ok (Missing (suc j)) = simp (eqb-suc-zero j) at (answer_next (suc j) i came e count free) in
         let after : State = left_by segment_after t (wholly s x) in
-        let told = ap (λ (a : Answer). answer_lines a (shown_in (segment_kind x) after)) (head ∙ few) in
-        ap₂ ◌++◌ (told ∙ sym (ap (λ (a : Answer). answer_lines a xs) few))
+        let told = ap (λ (a : Result Answer Refusal). answer_lines a (shown_in (segment_kind x) after)) (head ∙ few) in
+        ap₂ ◌++◌ (told ∙ sym (ap (λ (a : Result Answer Refusal). answer_lines a xs) few))
         (told_lines (suc j) (suc i) (i ∷ came) (omega arith) (simp (free, count))
         (λ p low. let apart : p ≡ i → ⊥ = λ q. omega arith in simp (ne_eqb p i apart, above p (omega arith)))
         after more (tail-eq_of_cons-eq is) shows)

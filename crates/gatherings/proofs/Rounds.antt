@@ -6,10 +6,11 @@ use Prim.Native.Nat.{ℕ, ◌*◌, ◌≤◌}
 use native.Mathlib.Omega.{arith}
 use lib.ListN.{length, take, drop}
 use lib.Seq.{take_at, take-append_seam}
+use Rattle.std.proofs.Common.{Result, Ok}
 use Rattle.octets.specs.Bits.{Bytes}
+use Rattle.meaning.specs.declared.Refusal.{Refusal}
 use Rattle.meaning.specs.declared.Kind.{Kind}
-use Rattle.meaning.specs.declared.Read.{Read}
-use Rattle.meaning.specs.declared.Read.TheVariants.{Listed}
+use Rattle.meaning.specs.declared.Listed.{Listed}
 use Rattle.meaning.specs.Sizes.{longest_chunk, longest_listing}
 use Rattle.meaning.specs.Numbers.{read_values}
 use Rattle.meaning.specs.Lists.{FicList, AllKnown}
@@ -17,13 +18,13 @@ use Rattle.meaning.specs.Layout.{wire, Carries}
 use Rattle.meaning.specs.Listing.{listing}
 use Rattle.meaning.specs.Said.{listing_fits, list_said}
 use Rattle.meaning.specs.Plain.{plain, Fits, plain_length, Oldest, VersionsZero}
-use Rattle.meaning.specs.Reading.{ReadSays}
+use Rattle.meaning.specs.Reading.{ReadSays, listed}
 use Rattle.meaning.proofs.Answers.{carried_says}
 use Rattle.meaning.proofs.Said.{listing_fitting, said-listing, listing-said, said_fitting, said-known}
 use Rattle.meaning.proofs.Plain.{length-plain, plain_carried, bytes-carried, carried_fitting, carried_room, carried-known, oldest_plain}
 use Rattle.segments.specs.Segment.{segment_bytes}
 use Rattle.segments.specs.Cut.{segment_count, Choice, joined}
-use Rattle.writer.specs.declared.Written.TheVariants.{Segments}
+use Rattle.std.proofs.Common.{Ok}
 use Rattle.writer.specs.Writing.{shortest_output, plainly, plain_segments, write_answer, write_output, WriteSays}
 use Rattle.writer.proofs.Answers.{checks_written, says_written}
 use Rattle.writer.proofs.Sent.{plainly_suits}
@@ -73,14 +74,14 @@ module _ (k : Kind) (l : FicList) (fits : Fits l) (room : plain_length l ≤ lon
     said : list_said (listing l) ≡ l
     said = said-listing l fits formed
 
-    written : let s = plain_segments k l in WriteSays (listing l) k output (Segments (length s)) (joined s ++ drop (segment_bytes * length s) output)
+    written : let s = plain_segments k l in WriteSays (listing l) k output (Ok (length s)) (joined s ++ drop (segment_bytes * length s) output)
     written =
         let fine = checks_written (listing l) output space formed (subst (λ (m : FicList). plain_length m ≤ longest_chunk) (sym said) room) in
-        subst (λ (m : FicList). let s = plain_segments k m in WriteSays (listing l) k output (Segments (length s)) (joined s ++ drop (segment_bytes * length s) output)) said
+        subst (λ (m : FicList). let s = plain_segments k m in WriteSays (listing l) k output (Ok (length s)) (joined s ++ drop (segment_bytes * length s) output)) said
         (says_written (listing l) k output fine)
 
-    pub written_count : write_answer (listing l) k output ≡ Segments (segment_count (plain_length l))
-    written_count = sym written.answers ∙ ap Segments (length-plain_segments k l fits)
+    pub written_count : write_answer (listing l) k output ≡ Ok (segment_count (plain_length l))
+    written_count = sym written.answers ∙ ap Ok (length-plain_segments k l fits)
 
     pub written_segments : first_segments (segment_count (plain_length l)) (write_output (listing l) k output) ≡ plain_segments k l
     written_segments =
@@ -94,9 +95,9 @@ module _ (k : Kind) (l : FicList) (fits : Fits l) (room : plain_length l ≤ lon
         ∙ unfold plain_segments in payloads_cut chunk choice chunk_bytes (plainly_suits chunk) (omega (arith, length-plain k l fits))
 
     -- given whole to the reader, they are the listing again
-    pub payloads_read : (before : List ℕ) → longest_listing ≤ length before → ReadSays (payloads_of (first_segments (segment_count (plain_length l)) (write_output (listing l) k output))) before (Listed k 0 (length (listing l))) (listing l ++ drop (length (listing l)) before)
+    pub payloads_read : (before : List ℕ) → longest_listing ≤ length before → ReadSays (payloads_of (first_segments (segment_count (plain_length l)) (write_output (listing l) k output))) before (Ok (listed k 0 (length (listing l)))) (listing l ++ drop (length (listing l)) before)
     payloads_read before long =
-        subst (λ (xs : List ℕ). ReadSays xs before (Listed k 0 (length (listing l))) (listing l ++ drop (length (listing l)) before)) (sym written_payloads)
+        subst (λ (xs : List ℕ). ReadSays xs before (Ok (listed k 0 (length (listing l)))) (listing l ++ drop (length (listing l)) before)) (sym written_payloads)
         (carried_says stuffed before long)
 
 -- ---- read after write, for a well formed listing
@@ -117,8 +118,8 @@ module _ (xs : List ℕ) (k : Kind) (output : List ℕ) (bytes : Bytes xs) (fits
   same : listing l ≡ xs
   same = listing-said xs bytes fits
 
-  pub written_so_many : write_answer xs k output ≡ Segments (segment_count (plain_length (list_said xs)))
-  written_so_many = subst (λ (ys : List ℕ). write_answer ys k output ≡ Segments n) same (written_count k l held room all_known output space)
+  pub written_so_many : write_answer xs k output ≡ Ok (segment_count (plain_length (list_said xs)))
+  written_so_many = subst (λ (ys : List ℕ). write_answer ys k output ≡ Ok n) same (written_count k l held room all_known output space)
 
   pub read_after_write : (d : Desk) → AtStart d → (first second : List ℕ) → longest_listing ≤ length first → longest_listing ≤ length second → let n = segment_count (plain_length (list_said xs)) in let s = state d first second in ComesInOrder k xs n d.notes.swapped first second (ran s (map (wholly s) (first_segments n (write_output xs k output))))
   read_after_write d start first second one other =
@@ -126,9 +127,9 @@ module _ (xs : List ℕ) (k : Kind) (output : List ℕ) (bytes : Bytes xs) (fits
       (subst (λ (x : List (List ℕ)). let s = state d first second in ComesInOrder k (listing l) n d.notes.swapped first second (ran s (map (wholly s) x))) (sym (written_segments k l held room all_known output space))
       (segments_delivered k l held room d start first second one other))
 
-  pub read_whole_after_write : (before : List ℕ) → longest_listing ≤ length before → ReadSays (payloads_of (first_segments (segment_count (plain_length (list_said xs))) (write_output xs k output))) before (Listed k 0 (length xs)) (xs ++ drop (length xs) before)
+  pub read_whole_after_write : (before : List ℕ) → longest_listing ≤ length before → ReadSays (payloads_of (first_segments (segment_count (plain_length (list_said xs))) (write_output xs k output))) before (Ok (listed k 0 (length xs))) (xs ++ drop (length xs) before)
   read_whole_after_write before long =
-      subst (λ (ys : List ℕ). ReadSays (payloads_of (first_segments n (write_output ys k output))) before (Listed k 0 (length ys)) (ys ++ drop (length ys) before)) same
+      subst (λ (ys : List ℕ). ReadSays (payloads_of (first_segments n (write_output ys k output))) before (Ok (listed k 0 (length ys))) (ys ++ drop (length ys) before)) same
       (payloads_read k l held room all_known output space before long)
 
 -- ---- write after read, for a chunk of the oldest edition whose ensembles are all of version 0
@@ -137,7 +138,7 @@ module _ {ys : List ℕ} {k : Kind} {m : ℕ} {l : FicList} (h : Carries ys k m 
   carried_listed : (buffer : List ℕ) → longest_listing ≤ length buffer → listed_by ys buffer ≡ listing l
   carried_listed buffer long =
       let s = carried_says h buffer long in
-      ap₂ (λ (r : Read) (t : List ℕ). take (read_values r).length t) (sym s.answers) (sym s.leaves) ∙ take-append_seam (listing l) (drop (length (listing l)) buffer)
+      ap₂ (λ (r : Result Listed Refusal) (t : List ℕ). take (read_values r).length t) (sym s.answers) (sym s.leaves) ∙ take-append_seam (listing l) (drop (length (listing l)) buffer)
 
   pub carried-short : plain_length l ≤ longest_chunk
   carried-short = omega (arith, carried_room h, h.allowed.room, ap length h.bytes)
@@ -146,7 +147,7 @@ module _ {ys : List ℕ} {k : Kind} {m : ℕ} {l : FicList} (h : Carries ys k m 
   pub oldest_carried : Carries (wire (plain k l)) k 0 l
   oldest_carried = plain_carried k l (carried_fitting h) carried-short
 
-  pub write_after_read : Oldest h.chunk → VersionsZero h.chunk → (buffer output : List ℕ) → longest_listing ≤ length buffer → shortest_output ≤ length output → let n = segment_count (plain_length l) in (write_answer (listed_by ys buffer) k output ≡ Segments n) × (take (plain_length l) (payloads_of (first_segments n (write_output (listed_by ys buffer) k output))) ≡ take (plain_length l) ys) × (ys ≡ take (plain_length l) ys ++ h.chunk.stuffing)
+  pub write_after_read : Oldest h.chunk → VersionsZero h.chunk → (buffer output : List ℕ) → longest_listing ≤ length buffer → shortest_output ≤ length output → let n = segment_count (plain_length l) in (write_answer (listed_by ys buffer) k output ≡ Ok n) × (take (plain_length l) (payloads_of (first_segments n (write_output (listed_by ys buffer) k output))) ≡ take (plain_length l) ys) × (ys ≡ take (plain_length l) ys ++ h.chunk.stuffing)
   write_after_read oldest versions buffer output long space =
       let fits = carried_fitting h in
       let all_known = carried-known h versions in
@@ -158,7 +159,7 @@ module _ {ys : List ℕ} {k : Kind} {m : ℕ} {l : FicList} (h : Carries ys k m 
       let back : take (plain_length l) (payloads_of (first_segments n (write_output (listing l) k output))) ≡ w =
       ap (take (plain_length l)) (written_payloads k l fits carried-short all_known output space) ∙ take_at w (plainly (length w)).fill (plain_length l) size in
       let listed = sym (carried_listed buffer long) in (
-        subst (λ (xs : List ℕ). write_answer xs k output ≡ Segments n) listed (written_count k l fits carried-short all_known output space),
+        subst (λ (xs : List ℕ). write_answer xs k output ≡ Ok n) listed (written_count k l fits carried-short all_known output space),
         subst (λ (xs : List ℕ). take (plain_length l) (payloads_of (first_segments n (write_output xs k output))) ≡ take (plain_length l) ys) listed (back ∙ sym front),
         own ∙ ap (λ (t : List ℕ). t ++ h.chunk.stuffing) (sym front),
       )

@@ -9,6 +9,7 @@ use lib.Dec.{eqb}
 use lib.ListN.{length, take, drop, length-take}
 use lib.Seq.{take_at}
 use lib.Count.{ones}
+use Rattle.std.proofs.Common.{Ok}
 use Rattle.octets.specs.Each.{Each}
 use Rattle.octets.specs.Checks.{among}
 use Rattle.octets.proofs.Laws.{either}
@@ -118,7 +119,7 @@ module _ {n : ℕ} {whole : List ℕ} {k : Kind} {m : ℕ} {l : FicList} {swappe
   repeat_goes q =
       let same =
       ap (wide c first second) (piece-repeat p d s.gathers left right left_long right_long (there ∙ q))
-      ∙ wide_unchanged d c first second (Missing (n - ones held)) in
+      ∙ wide_unchanged d c first second (Ok (Missing (n - ones held))) in
       subst Goes (sym same) (simp (q, count), simp q s)
 
   -- one of the missing
@@ -153,7 +154,7 @@ module _ {n : ℕ} {whole : List ℕ} {k : Kind} {m : ℕ} {l : FicList} {swappe
         let short : suc (different came) < n = omega (arith, eqb-false (n - suc (different came)) 0 z) in
         let h = piece_more p d s.gathers left right left_long right_long free (rw count short) in
         let own = called_left d c first second k swapped [] (λ j. lent_for k swapped (h.4 j) (h.5 j)) ∙ same in
-        (simp (q, z) (h.0 ∙ ap (λ (x : ℕ). Missing (n - suc x)) count), held_stands h.1 h.2 (λ e. own) (λ e. absurd (omega arith))))
+        (simp (q, z) (h.0 ∙ ap (λ (x : ℕ). Ok (Missing (n - suc x))) count), held_stands h.1 h.2 (λ e. own) (λ e. absurd (omega arith))))
 
   pub piece_goes : i < n → let o = called d c first second in (o.answer ≡ piece_answer n k (length (listing l)) came i) × Stands n whole k (listing l) swapped before (set_of (i ∷ came)) o.desk o.first o.second
   piece_goes less = either (among came i) repeat_goes (λ q. missing_goes q less)

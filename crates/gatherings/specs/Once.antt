@@ -1,10 +1,10 @@
 -- Demand 3: the pieces of a chunk in any order, with repeats and other segments between them, and what must come of it.
-use Rattle.std.specs.Prelude.{ℕ, suc, ◌+◌, ◌-◌, ◌*◌, ◌≤◌, ◌<◌, ◌≡◌, Bool, cond, not, ◌&&◌, ◌⊎◌, List, [], ◌∷◌, ◌++◌, map, T, eqb, length, drop}
+use Rattle.std.specs.Prelude.{ℕ, suc, ◌+◌, ◌-◌, ◌*◌, ◌≤◌, ◌<◌, ◌≡◌, Bool, cond, not, ◌&&◌, ◌⊎◌, List, [], ◌∷◌, ◌++◌, map, T, eqb, length, drop, Result, Ok, Err}
 use Rattle.octets.specs.Bits.{Bytes}
 use Rattle.octets.specs.Each.{Each}
 use Rattle.octets.specs.Checks.{among}
+use Rattle.meaning.specs.declared.Refusal.{Refusal}
 use Rattle.meaning.specs.declared.Kind.{Kind}
-use Rattle.meaning.specs.declared.Checked.TheVariants.{Fine}
 use Rattle.meaning.specs.Sizes.{longest_listing}
 use Rattle.meaning.specs.Lists.{FicList, current_of}
 use Rattle.meaning.specs.Layout.{Carries}
@@ -12,7 +12,7 @@ use Rattle.meaning.specs.Listing.{listing}
 use Rattle.segments.specs.Segment.{payload_bytes, segment_kind, segment_checks}
 use Rattle.segments.specs.Cut.{segment_count, piece_of, up_from}
 use Rattle.slots.specs.declared.Answer.{Answer}
-use Rattle.slots.specs.declared.Answer.TheVariants.{Missing, NewList, Refused}
+use Rattle.slots.specs.declared.Answer.TheVariants.{Missing, NewList}
 use Rattle.notes.specs.Notes.{other_kind, lent_for}
 use Rattle.desk.specs.declared.Desk.{Desk}
 use Rattle.desk.specs.Calls.{Lending, Call, segment, state, shown_in, SegmentCall, Ran, ran_by, answers_of}
@@ -39,7 +39,7 @@ call_for ys fill x = segment (lending_for ys fill x)
 abbrev pub MayCome : ℕ → Kind → Delivery → Type 0
 MayCome n k (piece i reserved wake first second) =
     (i < n) × (reserved < 2) × (wake < 2) × (longest_listing ≤ first) × (longest_listing ≤ second)
-MayCome n k (other xs first second) = (segment_kind xs ≡ other_kind k) ⊎ (segment_checks xs ≡ Fine → ⊥)
+MayCome n k (other xs first second) = (segment_kind xs ≡ other_kind k) ⊎ (segment_checks xs ≡ Ok tt → ⊥)
 
 -- the numbers of the pieces that come, in their order
 abbrev pub numbers_of : List Delivery → List ℕ
@@ -55,40 +55,40 @@ different [] = 0
 different (i ∷ more) = cond (among more i) (different more) (suc (different more))
 
 -- the answer to the piece i after the pieces `came`: how many of n are missing then, or the list if it was the last missing one
-abbrev pub piece_answer : ℕ → Kind → ℕ → List ℕ → ℕ → Answer
+abbrev pub piece_answer : ℕ → Kind → ℕ → List ℕ → ℕ → Result Answer Refusal
 piece_answer n k size came i =
     let missing = n - different (i ∷ came) in
-    cond (not (among came i) && eqb missing 0) (NewList k size) (Missing missing)
+    cond (not (among came i) && eqb missing 0) (Ok (NewList k size)) (Ok (Missing missing))
 
 -- the answers to pieces, one after the other
-abbrev pub piece_answers : ℕ → Kind → ℕ → List ℕ → List ℕ → List Answer
+abbrev pub piece_answers : ℕ → Kind → ℕ → List ℕ → List ℕ → List (Result Answer Refusal)
 piece_answers n k size came [] = []
 piece_answers n k size came (i ∷ more) = piece_answer n k size came i ∷ piece_answers n k size (i ∷ came) more
 
 -- the counts alone
-abbrev pub piece_counts : ℕ → List ℕ → List ℕ → List Answer
+abbrev pub piece_counts : ℕ → List ℕ → List ℕ → List (Result Answer Refusal)
 piece_counts n came [] = []
-piece_counts n came (i ∷ more) = Missing (n - different (i ∷ came)) ∷ piece_counts n (i ∷ came) more
+piece_counts n came (i ∷ more) = Ok (Missing (n - different (i ∷ came))) ∷ piece_counts n (i ∷ came) more
 
 -- of the answers to some deliveries, those to the pieces
-abbrev pub at_pieces : List Delivery → List Answer → List Answer
+abbrev pub at_pieces : List Delivery → List (Result Answer Refusal) → List (Result Answer Refusal)
 at_pieces (piece i reserved wake first second ∷ more) (a ∷ answers) = a ∷ at_pieces more answers
 at_pieces (other xs first second ∷ more) (a ∷ answers) = at_pieces more answers
 at_pieces [] answers = []
 at_pieces (x ∷ more) [] = []
 
 -- how many answers are lists of the kind k
-abbrev pub lists_of : Kind → List Answer → ℕ
+abbrev pub lists_of : Kind → List (Result Answer Refusal) → ℕ
 lists_of k [] = 0
-lists_of k (Missing n ∷ more) = lists_of k more
-lists_of k (NewList j n ∷ more) = cond (eqb (current_of j) (current_of k)) 1 0 + lists_of k more
-lists_of k (Refused f ∷ more) = lists_of k more
+lists_of k ((Ok (Missing n)) ∷ more) = lists_of k more
+lists_of k ((Ok (NewList j n)) ∷ more) = cond (eqb (current_of j) (current_of k)) 1 0 + lists_of k more
+lists_of k (Err f ∷ more) = lists_of k more
 
 -- ---- the list comes out once
 
 -- of n pieces of the kind k those with the numbers `came` come in this order, each of the n at least once, and are answered with `pieces`; the
 -- listing is xs; swapped tells the buffers' roles
-pub record ComesOnce (k : Kind) (xs : List ℕ) (n : ℕ) (swapped : Bool) (came : List ℕ) (pieces : List Answer) (first second : List ℕ) (r : Ran) : Type 0 where
+pub record ComesOnce (k : Kind) (xs : List ℕ) (n : ℕ) (swapped : Bool) (came : List ℕ) (pieces : List (Result Answer Refusal)) (first second : List ℕ) (r : Ran) : Type 0 where
   -- every piece is answered with the exact count, the last missing one with the list
   pub answers : pieces ≡ piece_answers n k (length xs) [] came
   -- exactly one of all answers is a list of that kind

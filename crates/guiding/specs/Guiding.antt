@@ -1,9 +1,8 @@
 -- The program `guide`: a file of sections, and the lines that it prints for them.
-use Rattle.std.specs.Prelude.{ℕ, ◌+◌, ◌≡◌, cond, List, eqb, length}
-use Rattle.text.specs.Text.{Put}
+use Rattle.std.specs.Prelude.{ℕ, ◌+◌, cond, List, eqb, length}
 use Rattle.records.specs.declared.Form.TheVariants.{Foreign, Counted}
 use Rattle.records.specs.Records.{mark_bytes, length_bytes, mark_of, Forms, body_in, last_line}
-use Rattle.records.specs.Transcripts.{Program, filled}
+use Rattle.records.specs.Transcripts.{Program}
 use Rattle.guides.specs.declared.Gathering.{Gathering}
 use Rattle.guides.specs.Gathering.{told}
 use Rattle.guide_lines.specs.Lines.{section_lines, longest_lines}
@@ -32,12 +31,3 @@ guide_program =
       longest = longest_lines;
       last = λ g e. last_line e;
     }
-
--- what a section leaves, its lines put to the place `to` of an output
-abbrev pub Shown : Gathering → List ℕ → List ℕ → ℕ → Gathering → List ℕ → ℕ → Type 0
-Shown g xs out to after left end = (after ≡ next_gathering g xs) × Put (lines_of g xs) out to left end
-
--- what the records at the start of a block leave, as many as the output takes
-abbrev pub FillSays : Gathering → List ℕ → List ℕ → Gathering → ℕ → List ℕ → ℕ → Type 0
-FillSays g block out after read left wrote =
-    let f = filled guide_program (length out) g block in (after ≡ f.state) × (read ≡ f.read) × Put f.text out 0 left wrote

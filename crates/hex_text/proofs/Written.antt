@@ -3,11 +3,11 @@ use mathlib.Core.Path.{◌≡◌, refl, ap, ap₂, ◌∙◌}
 use mathlib.Core.Bool.{true}
 use mathlib.Core.List.{List, [], ◌∷◌, flat_map}
 use Prim.Native.Nat.{ℕ, suc, ◌+◌, ◌*◌, ◌/◌, ◌%◌, ◌≤◌, ◌<◌}
-use native.Mathlib.Numerals.{add-one, add-two}
+use native.Mathlib.Numerals.{add-one}
 use native.Mathlib.Omega.{arith}
-use borrow.Author.Tests.{lt-ltb}
 use lib.ListN.{length, get_or, drop, set, drop_of_length-le}
 use lib.Seq.{drop-cons, sets}
+use Rattle.std.specs.Prelude.{Option, unwrap_or}
 use Rattle.octets.specs.Bits.{Bytes}
 use Rattle.hex_text.specs.Hex.{glyph, hex, hex_fits, hex_said}
 use Rattle.hex_text.proofs.Tables.{digit_glyph}
@@ -24,19 +24,17 @@ hex_typed [] b = (refl, refl)
 hex_typed (x ∷ xs) b =
     let first = digit_glyph (x / 16) (omega arith) in
     let second = digit_glyph (x % 16) (omega arith) in
-    let one : x / 16 < 16 = omega arith in
-    let two : x % 16 < 16 = omega arith in
     let more = hex_typed xs b.1 in
     let byte : x / 16 * 16 + x % 16 ≡ x = omega arith in
-    (simp (first, second, lt-ltb _ _ one, lt-ltb _ _ two) more.0, ap₂ ◌∷◌ (ap₂ (λ (a c : ℕ). a * 16 + c) first second ∙ byte) more.1)
+    (simp (first, second) more.0, ap₂ ◌∷◌ (ap₂ (λ (a c : Option ℕ). unwrap_or a 16 * 16 + unwrap_or c 16) first second ∙ byte) more.1)
 
 -- ---- byte by byte
 
-pub hex_next : (xs l : List ℕ) (k i hi lo : ℕ) → i < length xs → hi ≡ glyph (get_or xs i 0 / 16) → lo ≡ glyph (get_or xs i 0 % 16) → sets (set (set l k hi) (k + 1) lo) (k + 2) (hex (drop (i + 1) xs)) ≡ sets l k (hex (drop i xs))
+pub hex_next : (xs l : List ℕ) (to i : ℕ) → i < length xs → sets (set (set l (to + 2 * i) (glyph (get_or xs i 0 / 16))) (to + 2 * i + 1) (glyph (get_or xs i 0 % 16))) (to + 2 * (i + 1)) (hex (drop (i + 1) xs)) ≡ sets l (to + 2 * i) (hex (drop i xs))
 unfolding hex flat_map
-hex_next xs l k i hi lo h p q =
-    rw (add-one k, add-two k, add-one i, drop-cons xs i 0 h)
-    (λ j. sets (set (set l k (p j)) (suc k) (q j)) (suc (suc k)) (hex (drop (suc i) xs)))
+hex_next xs l to i h =
+    let next : to + 2 * (i + 1) ≡ suc (suc (to + 2 * i)) = omega arith in
+    rw (next, add-one (to + 2 * i), add-one i, drop-cons xs i 0 h)
 
 pub hex_none : (xs l : List ℕ) (k i : ℕ) → length xs ≤ i → sets l k (hex (drop i xs)) ≡ l
 unfolding hex flat_map

@@ -1,39 +1,31 @@
 // Bytes in hex: put at a place of an output, and taken from a place of a text.
 #![tactic(auto)]
 
-ghost use Rattle.std.specs.Prelude.{◌≡◌, true, ◌+◌, ◌*◌, ◌≤◌, ◌<◌, length, drop};
+ghost use Rattle.std.specs.Prelude.{◌≡◌, true, ◌+◌, ◌*◌, ◌≤◌, is_some, length, drop};
+ghost use Rattle.std.specs.List.{list_all};
 ghost use Rattle.std.proofs.lemmas.List.Edits.{sets};
 ghost use Rattle.text.specs.Text.{Put};
 ghost use Rattle.text.specs.Output.{HasRoom, Adds};
-ghost use Rattle.hex_text.specs.Hex.{glyph as Hex·glyph, hex, digit_of, hex_fits, hex_said};
+ghost use Rattle.hex_text.specs.Hex.{hex, digit_of, hex_fits, hex_said};
 
 use text::Output;
 
 // ---- written
 
-fn glyph(n: u8) -> u8
-    requires { n < 16 }
-    ensures { result ≡ Hex·glyph n }
-{
-    let letter = if n < 10 { 0 } else { 39 };
-    48 + n + letter
-}
+// The sixteen digits.
+const DIGITS: [u8; 16] = *b"0123456789abcdef";
 
 // Puts bytes in hex at a place of the output; the place after them.
 pub fn put_hex(bytes: &[u8], out: &mut [u8], to: usize) -> usize
     requires { to + 2 * length bytes.now ≤ length out.old }
     ensures { Put (hex bytes.now) out.old to out.new result }
 {
-    let mut i = 0;
-    let mut at = to;
-    while i < bytes.len() {
-        let byte = bytes[i];
-        out[at] = glyph(byte / 16);
-        out[at + 1] = glyph(byte % 16);
-        at += 2;
-        i += 1;
+    for (i, &byte) in bytes.iter().enumerate() {
+        let at = to + 2 * i;
+        out[at] = DIGITS[(byte / 16) as usize];
+        out[at + 1] = DIGITS[(byte % 16) as usize];
     }
-    at
+    to + 2 * bytes.len()
 }
 
 // Puts bytes in hex to an output.
@@ -46,16 +38,18 @@ pub fn put_hex_to(bytes: &[u8], out: &mut Output<'_>)
 
 // ---- read
 
-// The value of a hex digit, 16 for any other character.
-fn digit(c: u8) -> u8
+// The value of a hex digit; none for any other character.
+fn digit(c: u8) -> Option<u8>
     ensures { result ≡ digit_of c }
 {
-    match c {
-        b'0'..=b'9' => c - b'0',
-        b'A'..=b'F' => 10 + (c - b'A'),
-        b'a'..=b'f' => 10 + (c - b'a'),
-        _ => 16,
-    }
+    (c as char).to_digit(16).map(|value| value as u8)
+}
+
+// Whether all of a text is hex digits.
+fn are_digits(text: &[u8]) -> bool
+    ensures { result ≡ list_all (λ c. is_some (digit_of c)) text.now }
+{
+    text.iter().all(|&c| digit(c).is_some())
 }
 
 // Whether count bytes in hex stand from a place of the text on.
@@ -63,19 +57,7 @@ pub fn hex_fits(text: &[u8], from: usize, count: usize) -> bool
     requires { from + 2 * count ≤ length text.now }
     ensures { result ≡ hex_fits count (drop from text.now) }
 {
-    let mut at = from;
-    let mut left = count;
-    while 0 < left {
-        if 16 <= digit(text[at]) {
-            return false;
-        }
-        if 16 <= digit(text[at + 1]) {
-            return false;
-        }
-        at += 2;
-        left -= 1;
-    }
-    true
+    are_digits(&text[from..from + 2 * count])
 }
 
 // Takes those bytes to the start of a buffer.
@@ -84,11 +66,8 @@ pub fn take_hex(text: &[u8], from: usize, count: usize, bytes: &mut [u8])
     requires text_value { hex_fits count (drop from text.now) ≡ true }
     ensures { bytes.new ≡ sets bytes.old 0 (hex_said count (drop from text.now)) }
 {
-    let mut at = from;
-    let mut to = 0;
-    while to < count {
-        bytes[to] = digit(text[at]) * 16 + digit(text[at + 1]);
-        at += 2;
-        to += 1;
+    for to in 0..count {
+        let at = from + 2 * to;
+        bytes[to] = digit(text[at]).unwrap() * 16 + digit(text[at + 1]).unwrap();
     }
 }

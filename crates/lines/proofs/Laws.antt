@@ -7,6 +7,7 @@ use native.Mathlib.Omega.{arith}
 use borrow.Author.Tests.{eq-eqb, ne_eqb}
 use lib.Dec.{eqb}
 use lib.ListN.{length, length-append}
+use Rattle.std.proofs.Common.{Result, Ok, Err}
 use Rattle.text.specs.Text.{text, newline, numbered}
 use Rattle.text.proofs.Laws.{length-numbered, length_refused}
 use Rattle.hex_text.specs.Hex.{hex}
@@ -18,7 +19,7 @@ use Rattle.meaning.specs.Sizes.{longest_listing}
 use Rattle.meaning.specs.Numbers.{number_of, offset_of}
 use Rattle.meaning.proofs.Gives.{number_of_small}
 use Rattle.slots.specs.declared.Answer.{Answer}
-use Rattle.slots.specs.declared.Answer.TheVariants.{Missing, NewList, Refused}
+use Rattle.slots.specs.declared.Answer.TheVariants.{Missing, NewList}
 use Rattle.lines.specs.Lines.{listing_lines, frame_lines, kind_text, refusal_line, missing_line, list_lines, refused_line, answer_lines, longest_lines}
 
 -- ---- lengths
@@ -46,16 +47,16 @@ pub length_refusal : (f : Refusal) → offset_of f < 2 ^ 64 → length (refusal_
 length_refusal f h = length_refused 9 (number_of f) (offset_of f) (omega (arith, number_of_small f)) h
 
 -- the counts of an answer are not too great
-abbrev pub Countable : Answer → Type 0
-Countable (Missing n) = n < 10000
-Countable (NewList k n) = Unit {0}
-Countable (Refused f) = offset_of f < 2 ^ 64
+abbrev pub Countable : Result Answer Refusal → Type 0
+Countable (Ok (Missing n)) = n < 10000
+Countable (Ok (NewList k n)) = Unit {0}
+Countable (Err f) = offset_of f < 2 ^ 64
 
-pub length-answer : (a : Answer) (l : List ℕ) → Countable a → length l ≤ longest_listing → length (answer_lines a l) ≤ longest_lines
+pub length-answer : (a : Result Answer Refusal) (l : List ℕ) → Countable a → length l ≤ longest_listing → length (answer_lines a l) ≤ longest_lines
 unfolding answer_lines
-length-answer (Missing n) l c h = omega (arith, length-numbered 3 n c)
-length-answer (NewList k n) l c h = omega (arith, length-append (kind_text k) (listing_lines l), length-kind k, length-listing l h)
-length-answer (Refused f) l c h = omega (arith, length_refusal f c)
+length-answer (Ok (Missing n)) l c h = omega (arith, length-numbered 3 n c)
+length-answer (Ok (NewList k n)) l c h = omega (arith, length-append (kind_text k) (listing_lines l), length-kind k, length-listing l h)
+length-answer (Err f) l c h = omega (arith, length_refusal f c)
 
 -- ---- a frame's lines, and an answer's, case by case
 
@@ -67,16 +68,16 @@ pub frame_some : (l : List ℕ) → (length l ≡ 0 → ⊥) → text "FR " ++ l
 unfolding frame_lines
 frame_some l e = rw (ne_eqb (length l) 0 e)
 
-pub missing_lines : (a : Answer) (n : ℕ) (l : List ℕ) → a ≡ Missing n → missing_line n ≡ answer_lines a l
+pub missing_lines : (a : Result Answer Refusal) (n : ℕ) (l : List ℕ) → a ≡ Ok (Missing n) → missing_line n ≡ answer_lines a l
 unfolding answer_lines
-missing_lines a n l e = ap (λ (b : Answer). answer_lines b l) (sym e)
+missing_lines a n l e = ap (λ (b : Result Answer Refusal). answer_lines b l) (sym e)
 
-pub listed_lines : (a : Answer) (k : Kind) (n : ℕ) (l : List ℕ) → a ≡ NewList k n → list_lines k l ≡ answer_lines a l
+pub listed_lines : (a : Result Answer Refusal) (k : Kind) (n : ℕ) (l : List ℕ) → a ≡ Ok (NewList k n) → list_lines k l ≡ answer_lines a l
 unfolding answer_lines
-listed_lines a k n l e = ap (λ (b : Answer). answer_lines b l) (sym e)
+listed_lines a k n l e = ap (λ (b : Result Answer Refusal). answer_lines b l) (sym e)
 
-pub refused_lines : (a : Answer) (f : Refusal) (l : List ℕ) → a ≡ Refused f → refused_line f ≡ answer_lines a l
+pub refused_lines : (a : Result Answer Refusal) (f : Refusal) (l : List ℕ) → a ≡ Err f → refused_line f ≡ answer_lines a l
 unfolding answer_lines
-refused_lines a f l e = ap (λ (b : Answer). answer_lines b l) (sym e)
+refused_lines a f l e = ap (λ (b : Result Answer Refusal). answer_lines b l) (sym e)
 
 -- and a refusal's line, part by part

@@ -1,5 +1,5 @@
 -- Document 01, "The log program": the lines for each answer.
-use Rattle.std.specs.Prelude.{ℕ, ◌+◌, ◌*◌, cond, List, ◌++◌, eqb, length}
+use Rattle.std.specs.Prelude.{ℕ, ◌+◌, ◌*◌, cond, List, ◌++◌, eqb, length, Result, Ok, Err}
 use Rattle.text.specs.Text.{text, newline, numbered, refused_with}
 use Rattle.hex_text.specs.Hex.{hex}
 use Rattle.meaning.specs.declared.Kind.{Kind}
@@ -8,7 +8,7 @@ use Rattle.meaning.specs.declared.Refusal.{Refusal}
 use Rattle.meaning.specs.Sizes.{longest_listing}
 use Rattle.meaning.specs.Numbers.{number_of, offset_of}
 use Rattle.slots.specs.declared.Answer.{Answer}
-use Rattle.slots.specs.declared.Answer.TheVariants.{Missing, NewList, Refused}
+use Rattle.slots.specs.declared.Answer.TheVariants.{Missing, NewList}
 
 -- a listing: its length, and on the next line its bytes in hex
 abbrev pub listing_lines : List ℕ → List ℕ
@@ -39,10 +39,10 @@ list_lines k l = kind_text k ++ listing_lines l
 abbrev pub refused_line : Refusal → List ℕ
 refused_line f = text "SG " ++ refusal_line f
 
-unfoldable pub answer_lines : Answer → List ℕ → List ℕ
-answer_lines (Missing n) l = missing_line n
-answer_lines (NewList k n) l = list_lines k l
-answer_lines (Refused f) l = refused_line f
+unfoldable pub answer_lines : Result Answer Refusal → List ℕ → List ℕ
+answer_lines (Ok (Missing n)) l = missing_line n
+answer_lines (Ok (NewList k n)) l = list_lines k l
+answer_lines (Err f) l = refused_line f
 
 -- room for the lines of any of these: the longest words, a number of four digits, the longest listing in hex, two line ends
 abbrev pub longest_lines : ℕ

@@ -59,9 +59,7 @@ pub fn put_refusal(refusal: Refusal, out: &mut Output<'_>)
     requires { HasRoom 32 out.old }
     ensures { Adds (refusal_line refusal) out.old out.new }
 {
-    let number = meaning::number_of(refusal);
-    let offset = meaning::offset_of(refusal);
-    out.refused(9, number, offset);
+    out.refused(9, u8::from(refusal), refusal.offset());
 }
 
 // The line of a segment of whose chunk so many are still missing.

@@ -1,7 +1,7 @@
 // The writer's checks on a listing, that write nothing.
 #![tactic(auto)]
 
-ghost use Rattle.std.specs.Prelude.{◌≡◌, cond, ◌+◌, ◌≤◌, length, drop};
+ghost use Rattle.std.specs.Prelude.{◌≡◌, cond, Some, None, ◌+◌, ◌≤◌, length, drop};
 ghost use Rattle.records.specs.Records.{mark_bytes};
 ghost use Rattle.meaning.specs.Sizes.{chunk_header_bytes, sv_bytes};
 ghost use Rattle.meaning.specs.Said.{marked as Said·marked, stands as Said·stands, sv_fits, services_fit, en_fits, ensembles_fit, listing_fits, list_said};
@@ -92,23 +92,23 @@ fn ensemble_fits(listing: &[u8], at: usize) -> bool
 }
 
 // The length of a chunk with the count ensembles whose records stand, with their services', from a place of the listing on and up to its end;
-// 0 if they do not stand there.
-fn ensembles_length(listing: &[u8], from: usize, count: usize) -> usize
+// none if they do not stand there.
+fn ensembles_length(listing: &[u8], from: usize, count: usize) -> Option<usize>
     requires { from ≤ length listing.now }
-    ensures { result ≡ cond (ensembles_fit count (drop from listing.now)) (chunk_header_bytes + ensembles_length count (drop from listing.now)) 0 }
+    ensures { result ≡ cond (ensembles_fit count (drop from listing.now)) (Some (chunk_header_bytes + ensembles_length count (drop from listing.now))) None }
 {
     let mut at = from;
     let mut left = count;
     let mut length = CHUNK_HEADER_BYTES;
     while 0 < left {
         if !ensemble_fits(listing, at) {
-            return 0;
+            return None;
         }
         let id = listing[at + 2];
         let said = listing[at + 5];
         let inside = at + EN_BYTES;
         if !services_fit(listing, inside, id, said) {
-            return 0;
+            return None;
         }
         let services = said as usize;
         at = inside + SV_BYTES * services;
@@ -116,17 +116,17 @@ fn ensembles_length(listing: &[u8], from: usize, count: usize) -> usize
         left -= 1;
     }
     if listing.len() != at {
-        return 0;
+        return None;
     }
-    length
+    Some(length)
 }
 
-// The length of the chunk of a listing; 0 if the listing is not well formed. Internal: the writer calls it.
-pub fn chunk_length(listing: &[u8]) -> usize
-    ensures { result ≡ cond (listing_fits listing.now) (plain_length (list_said listing.now)) 0 }
+// The length of the chunk of a listing; none if the listing is not well formed. Internal: the writer calls it.
+pub fn chunk_length(listing: &[u8]) -> Option<usize>
+    ensures { result ≡ cond (listing_fits listing.now) (Some (plain_length (list_said listing.now))) None }
 {
     if !stands(listing, 0, TS_BYTES, *b"TS") {
-        return 0;
+        return None;
     }
     ensembles_length(listing, TS_BYTES, listing[4] as usize)
 }

@@ -1,16 +1,16 @@
 -- Laws of the list and its records in the code's own terms: a chunk xs and a place in it, instead of what is left of the chunk. Assumes nothing.
 use mathlib.Core.Path.{◌≡◌, refl, sym, ap, ap₂, ◌∙◌}
 use mathlib.Core.List.{List, [], ◌∷◌, ◌++◌, flat_map}
-use Prim.Native.Nat.{ℕ, zero, suc, ◌+◌, ◌-◌, ◌*◌, ◌/◌, ◌%◌, ◌≤◌, ◌<◌}
+use Prim.Native.Nat.{ℕ, suc, ◌+◌, ◌*◌, ◌/◌, ◌%◌, ◌≤◌, ◌<◌}
 use native.Mathlib.Nat.{add_assoc, div-div-eq-div-mul}
 use native.Mathlib.Omega.{arith}
 use borrow.Author.Tests.{eq-eqb, ne_eqb}
 use lib.ListN.{length, get_or, drop, set, length-append, length-drop}
 use lib.Seq.{get_or-drop, drop-drop, sets}
+use Rattle.std.proofs.Common.{Ok}
 use Rattle.octets.proofs.Laws.{get_d_there, word_there, high_word, low_word}
 use Rattle.octets.proofs.Stores.{stores, sets-append, sets_behind, behind-mark}
 use Rattle.octets.specs.Word.{word, high, low, word_bytes}
-use Rattle.meaning.specs.declared.Checked.TheVariants.{Fine}
 use Rattle.meaning.specs.Sizes.{ensemble_bytes, service_bytes, ts_bytes, en_bytes, sv_bytes}
 use Rattle.meaning.specs.Lists.{Service, known}
 use Rattle.meaning.specs.Listing.{mark_ts, mark_en, mark_eu, mark_sv, sv_record, ts_record, en_record, eu_record, ensemble_listing, listing}
@@ -78,29 +78,25 @@ module _ (xs : List ℕ) (at e s : ℕ) where
 
 -- ---- one record after the other
 
--- n rows of w bytes from the place at on: the first, and the rest
-pub row_first : (at w L n : ℕ) → 0 < n → at + n * w ≤ L → at + w ≤ L
-row_first at w L zero z h = absurd (omega arith)
-row_first at w L (suc n) z h = omega arith
+-- n rows are one and k more; a row has w bytes, and they stand from the place at on
+module _ {n k : ℕ} (one : n ≡ suc k) where
+  pub row_first : (at w L : ℕ) → at + n * w ≤ L → at + w ≤ L
+  row_first at w L h = let rows : at + suc k * w ≤ L = rw one at h in omega arith
 
-pub row-rest : (at w L n : ℕ) → 0 < n → at + n * w ≤ L → at + w + (n - 1) * w ≤ L
-row-rest at w L zero z h = absurd (omega arith)
-row-rest at w L (suc n) z h = let one : suc n - 1 ≡ n = omega arith in rw one (omega arith)
+  pub row-rest : (at w L : ℕ) → at + n * w ≤ L → at + w + k * w ≤ L
+  row-rest at w L h = let rows : at + suc k * w ≤ L = rw one at h in omega arith
 
-pub services_next : (xs l m : List ℕ) (at ensemble to s n : ℕ) → 0 < n → m ≡ sets l to (sv_record ensemble (service_at (drop at xs))) → sets m (to + sv_bytes) (flat_map (sv_record ensemble) (services_at s (n - 1) (drop (at + (service_bytes + s)) xs))) ≡ sets l to (flat_map (sv_record ensemble) (services_at s n (drop at xs)))
-services_next xs l m at ensemble to s zero z e = absurd (omega arith)
-services_next xs l m at ensemble to s (suc n) z e =
-    let one : suc n - 1 ≡ n = omega arith in
-    let rest : List ℕ = flat_map (sv_record ensemble) (services_at s n (drop (service_bytes + s) (drop at xs))) in
-    ap (λ (k : ℕ). sets m (to + sv_bytes) (flat_map (sv_record ensemble) (services_at s k (drop (at + (service_bytes + s)) xs)))) one
-    ∙ ap₂ (λ (o t : List ℕ). sets o (to + sv_bytes) (flat_map (sv_record ensemble) (services_at s n t))) e (sym (drop-drop (service_bytes + s) at xs))
-    ∙ sym (sets-append (sv_record ensemble (service_at (drop at xs))) rest l to)
-    ∙ unfold flat_map services_at in refl
+  pub services_next : (xs l m : List ℕ) (at ensemble to s : ℕ) → m ≡ sets l to (sv_record ensemble (service_at (drop at xs))) → sets m (to + sv_bytes) (flat_map (sv_record ensemble) (services_at s k (drop (at + (service_bytes + s)) xs))) ≡ sets l to (flat_map (sv_record ensemble) (services_at s n (drop at xs)))
+  services_next xs l m at ensemble to s e =
+      let rest : List ℕ = flat_map (sv_record ensemble) (services_at s k (drop (service_bytes + s) (drop at xs))) in
+      rw one
+      (ap₂ (λ (o t : List ℕ). sets o (to + sv_bytes) (flat_map (sv_record ensemble) (services_at s k t))) e (sym (drop-drop (service_bytes + s) at xs))
+      ∙ sym (sets-append (sv_record ensemble (service_at (drop at xs))) rest l to)
+      ∙ unfold flat_map services_at in refl)
 
-pub services_none : (xs l : List ℕ) (at ensemble to s n : ℕ) → n ≤ 0 → sets l to (flat_map (sv_record ensemble) (services_at s n (drop at xs))) ≡ l
+pub services_none : {n : ℕ} → n ≡ 0 → (xs l : List ℕ) (at ensemble to s : ℕ) → sets l to (flat_map (sv_record ensemble) (services_at s n (drop at xs))) ≡ l
 unfolding flat_map services_at
-services_none xs l at ensemble to s zero z = refl
-services_none xs l at ensemble to s (suc n) z = absurd (omega arith)
+services_none z xs l at ensemble to s = rw z refl
 
 -- ---- one ensemble after the other: n from the place at on, that passed, the first of them with k services
 
@@ -115,48 +111,46 @@ past_after xs at e s k is =
     ∙ ap (λ (n : ℕ). drop n xs)
     (sym (add_assoc at (ensemble_bytes + e) (services_room e s (drop at xs))) ∙ ap (λ (m : ℕ). after at e s m) (sym is))
 
-pub ensembles_some : (xs : List ℕ) (at e s n k : ℕ) → at ≤ length xs → 0 < n → ensembles_checks e s n at (drop at xs) ≡ Fine → k ≡ services_in e (drop at xs) → (after at e s k ≤ length xs) × (ensembles_checks e s (n - 1) (after at e s k) (drop (after at e s k) xs) ≡ Fine)
-ensembles_some xs at e s zero k inl some fine is = absurd (omega arith)
-ensembles_some xs at e s (suc n) k inl some fine is =
-    let h = ensemble-passes e s n at (drop at xs) fine in
-    let one : suc n - 1 ≡ n = omega arith in (
-      omega (
-        arith,
-        h.0.fields,
-        h.0.services,
-        length-drop at xs,
-        length-drop (ensemble_bytes + e) (drop at xs),
-        ap (λ (m : ℕ). m * (service_bytes + s)) is,
-      ),
-      rw one (ap₂ (ensembles_checks e s n) (ap (after at e s) is) (sym (past_after xs at e s k is)) ∙ h.1),
-    )
+-- n ensembles are one, with k services, and m more
+module _ {n m : ℕ} (one : n ≡ suc m) (xs : List ℕ) (at e s k : ℕ) where
+  pub ensembles_some : at ≤ length xs → ensembles_checks e s n at (drop at xs) ≡ Ok tt → k ≡ services_in e (drop at xs) → (after at e s k ≤ length xs) × (ensembles_checks e s m (after at e s k) (drop (after at e s k) xs) ≡ Ok tt)
+  ensembles_some inl fine is =
+      let h = ensemble-passes e s m at (drop at xs) (rw one at fine) in (
+        omega (
+          arith,
+          h.0.fields,
+          h.0.services,
+          length-drop at xs,
+          length-drop (ensemble_bytes + e) (drop at xs),
+          ap (λ (j : ℕ). j * (service_bytes + s)) is,
+        ),
+        ap₂ (ensembles_checks e s m) (ap (after at e s) is) (sym (past_after xs at e s k is)) ∙ h.1,
+      )
 
-pub ensembles_next : (xs : List ℕ) (at e s n k : ℕ) → 0 < n → k ≡ services_in e (drop at xs) → flat_map ensemble_listing (ensembles_at e s n (drop at xs)) ≡ ensemble_listing (ensemble_at e s (drop at xs)) ++ flat_map ensemble_listing (ensembles_at e s (n - 1) (drop (after at e s k) xs))
+  module _ (is : k ≡ services_in e (drop at xs)) where
+    abbrev first : List ℕ
+    first = ensemble_listing (ensemble_at e s (drop at xs))
+
+    abbrev rest : List ℕ
+    rest = flat_map ensemble_listing (ensembles_at e s m (drop (after at e s k) xs))
+
+    ensembles_next : flat_map ensemble_listing (ensembles_at e s n (drop at xs)) ≡ first ++ rest
+    unfolding flat_map ensembles_at
+    ensembles_next =
+        rw one (ap (λ (t : List ℕ). first ++ flat_map ensemble_listing (ensembles_at e s m t)) (past_after xs at e s k is))
+
+    pub length-ensembles : length (flat_map ensemble_listing (ensembles_at e s n (drop at xs))) ≡ length first + length rest
+    length-ensembles = ap length ensembles_next ∙ length-append first rest
+
+    pub ensembles-stored : (l o : List ℕ) (to next : ℕ) → next ≡ to + length first → o ≡ sets l to first → sets o next rest ≡ sets l to (flat_map ensemble_listing (ensembles_at e s n (drop at xs)))
+    ensembles-stored l o to next place stored =
+        ap₂ (λ (p : List ℕ) (b : ℕ). sets p b rest) stored place
+        ∙ sym (sets-append first rest l to)
+        ∙ ap (sets l to) (sym ensembles_next)
+
+pub ensembles_none : {n : ℕ} → n ≡ 0 → (xs : List ℕ) (at e s : ℕ) → flat_map ensemble_listing (ensembles_at e s n (drop at xs)) ≡ []
 unfolding flat_map ensembles_at
-ensembles_next xs at e s zero k some is = absurd (omega arith)
-ensembles_next xs at e s (suc n) k some is =
-    let one : suc n - 1 ≡ n = omega arith in
-    rw one
-    (ap (λ (t : List ℕ). ensemble_listing (ensemble_at e s (drop at xs)) ++ flat_map ensemble_listing (ensembles_at e s n t)) (past_after xs at e s k is))
-
-pub ensembles_none : (xs : List ℕ) (at e s n : ℕ) → n ≤ 0 → flat_map ensemble_listing (ensembles_at e s n (drop at xs)) ≡ []
-unfolding flat_map ensembles_at
-ensembles_none xs at e s zero z = refl
-ensembles_none xs at e s (suc n) z = absurd (omega arith)
-
-pub length-ensembles : (xs : List ℕ) (at e s n k : ℕ) → 0 < n → k ≡ services_in e (drop at xs) → length (flat_map ensemble_listing (ensembles_at e s n (drop at xs))) ≡ length (ensemble_listing (ensemble_at e s (drop at xs))) + length (flat_map ensemble_listing (ensembles_at e s (n - 1) (drop (after at e s k) xs)))
-length-ensembles xs at e s n k some is =
-    let one : List ℕ = ensemble_listing (ensemble_at e s (drop at xs)) in
-    let rest : List ℕ = flat_map ensemble_listing (ensembles_at e s (n - 1) (drop (after at e s k) xs)) in
-    ap length (ensembles_next xs at e s n k some is) ∙ length-append one rest
-
-pub ensembles-stored : (xs l m : List ℕ) (at to e s n k next : ℕ) → 0 < n → k ≡ services_in e (drop at xs) → next ≡ to + length (ensemble_listing (ensemble_at e s (drop at xs))) → m ≡ sets l to (ensemble_listing (ensemble_at e s (drop at xs))) → sets m next (flat_map ensemble_listing (ensembles_at e s (n - 1) (drop (after at e s k) xs))) ≡ sets l to (flat_map ensemble_listing (ensembles_at e s n (drop at xs)))
-ensembles-stored xs l m at to e s n k next some is place stored =
-    let one : List ℕ = ensemble_listing (ensemble_at e s (drop at xs)) in
-    let rest : List ℕ = flat_map ensemble_listing (ensembles_at e s (n - 1) (drop (after at e s k) xs)) in
-    ap₂ (λ (o : List ℕ) (b : ℕ). sets o b rest) stored place
-    ∙ sym (sets-append one rest l to)
-    ∙ ap (sets l to) (sym (ensembles_next xs at e s n k some is))
+ensembles_none z xs at e s = rw z refl
 
 -- ---- the stream's record, then the ensembles
 

@@ -1,7 +1,7 @@
 // The reader's writing: the listing of a chunk that the checks passed.
 #![tactic(auto)]
 
-ghost use Rattle.std.specs.Prelude.{◌≡◌, ◌+◌, ◌*◌, ◌≤◌, ◌<◌, length, drop};
+ghost use Rattle.std.specs.Prelude.{◌≡◌, ◌+◌, ◌*◌, ◌≤◌, ◌<◌, length, drop, Ok};
 ghost use mathlib.Core.List.{flat_map};
 ghost use Rattle.std.proofs.lemmas.List.Edits.{sets};
 ghost use Rattle.meaning.specs.Sizes.{longest_chunk, longest_listing, ensemble_bytes, service_bytes, en_bytes, eu_bytes, sv_bytes};
@@ -10,8 +10,7 @@ ghost use Rattle.meaning.specs.Listing.{sv_record, eu_record, ensemble_listing, 
 ghost use Rattle.meaning.specs.Reading.{checks, ensembles_checks, service_at, services_at, known_at, unknown_at, ensemble_at, ensembles_at, services_in, services_room, list_in};
 
 use meaning::{
-    CHUNK_HEADER_BYTES, Checked, EN_BYTES, ENSEMBLE_BYTES, EU_BYTES, SERVICE_BYTES, SV_BYTES,
-    TS_BYTES,
+    CHUNK_HEADER_BYTES, EN_BYTES, ENSEMBLE_BYTES, EU_BYTES, SERVICE_BYTES, SV_BYTES, TS_BYTES,
 };
 
 // The record of the service at a place of the chunk, of the ensemble with this id, put at a place of the output.
@@ -46,12 +45,10 @@ fn write_services(
 {
     let mut at = from;
     let mut to = start;
-    let mut left = count;
-    while 0 < left {
+    for _ in 0..count {
         write_service(chunk, at, ensemble, out, to);
         at += SERVICE_BYTES + s;
         to += SV_BYTES;
-        left -= 1;
     }
 }
 
@@ -118,19 +115,17 @@ fn write_ensembles(
     start: usize,
 ) -> usize
     requires from_in_bounds { (from ≤ length chunk.now) × (length chunk.now ≤ longest_chunk) × (e < 8) × (s < 8) }
-    requires chunk_value { ensembles_checks e s count from (drop from chunk.now) ≡ Checked.Fine }
+    requires chunk_value { ensembles_checks e s count from (drop from chunk.now) ≡ Ok tt }
     requires chunk_in_bounds { start + length (flat_map ensemble_listing (ensembles_at e s count (drop from chunk.now))) ≤ length out.old }
     ensures value { result ≡ start + length (flat_map ensemble_listing (ensembles_at e s count (drop from chunk.now))) }
     ensures out_after { out.new ≡ sets out.old start (flat_map ensemble_listing (ensembles_at e s count (drop from chunk.now))) }
 {
     let mut at = from;
     let mut to = start;
-    let mut left = count;
-    while 0 < left {
+    for _ in 0..count {
         to = write_ensemble(chunk, at, e, s, out, to);
         let services = chunk[at + (3 + e)] as usize;
         at = at + (ENSEMBLE_BYTES + e) + services * (SERVICE_BYTES + s);
-        left -= 1;
     }
     to
 }
@@ -138,7 +133,7 @@ fn write_ensembles(
 // The listing of a chunk that the checks passed, at the start of the output; its length. Internal: the desk calls it once it has seen that the
 // kind agrees (docs/DECISIONS.md, 7).
 pub fn write_listing(chunk: &[u8], out: &mut [u8]) -> usize
-    requires { (checks chunk.now ≡ Checked.Fine) × (longest_listing ≤ length out.old) }
+    requires { (checks chunk.now ≡ Ok tt) × (longest_listing ≤ length out.old) }
     ensures value { result ≡ length (listing (list_in chunk.now)) }
     ensures out_after { out.new ≡ sets out.old 0 (listing (list_in chunk.now)) }
 {

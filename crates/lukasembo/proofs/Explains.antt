@@ -6,6 +6,7 @@ use Prim.Native.Nat.{ℕ, ◌+◌, ◌≤◌, ◌<◌}
 use native.Mathlib.Omega.{arith}
 use lib.Dec.{eqb, lit<}
 use lib.ListN.{length}
+use Rattle.std.proofs.Common.{Result, Ok, Err}
 use Rattle.octets.specs.Checks.{check}
 use Rattle.octets.proofs.Laws.{cond_both}
 use Rattle.octets.proofs.Tables.{not_whole_most}
@@ -13,8 +14,6 @@ use Rattle.meaning.specs.declared.Part.{Part}
 use Rattle.meaning.specs.declared.Part.TheVariants.{Header, EnsembleFields, SingleService}
 use Rattle.meaning.specs.declared.Refusal.{Refusal}
 use Rattle.meaning.specs.declared.Refusal.TheVariants.{ShortBuffer, SegmentLength, SegmentType, ErrorBit, OtherMajor, NumberAboveLast, Clash, TooLong, EndsEarly, KindDiffers, BadDesk}
-use Rattle.meaning.specs.declared.Checked.{Checked}
-use Rattle.meaning.specs.declared.Checked.TheVariants.{Fine, Fault}
 use Rattle.meaning.specs.Checks.{and_then}
 use Rattle.meaning.specs.Numbers.{checked_number}
 use Rattle.meaning.specs.Reading.{checks}
@@ -32,11 +31,11 @@ use Rattle.lukasembo.specs.Explains.{table_number, explained_field, Told}
 abbrev Small : Explained → Type 0
 Small e = explained_field e < 0x100
 
-checked_small : (v : Checked) → checked_number v < 0x100
-checked_small Fine = lit< tt
-checked_small (Fault f) = number_of_small f
+checked_small : (v : Result Unit Refusal) → checked_number v < 0x100
+checked_small (Ok _) = lit< tt
+checked_small (Err f) = number_of_small f
 
-small_told : (e : Explained) (v : Checked) → (explained_values e).number ≡ checked_number v → Small e → Told e
+small_told : (e : Explained) (v : Result Unit Refusal) → (explained_values e).number ≡ checked_number v → Small e → Told e
 small_told e v is s =
     let n : checked_number v < 0x100 = checked_small v in
     record { number = omega arith; field = omega arith; offset = omega arith }
@@ -61,9 +60,9 @@ fault_small Clash xs = lit< tt
 fault_small KindDiffers xs = lit< tt
 fault_small BadDesk xs = lit< tt
 
-by_small : (v : Checked) (xs : List ℕ) → Small (chunk_by v xs)
-by_small Fine xs = lit< tt
-by_small (Fault f) xs = fault_small f xs
+by_small : (v : Result Unit Refusal) (xs : List ℕ) → Small (chunk_by v xs)
+by_small (Ok _) xs = lit< tt
+by_small (Err f) xs = fault_small f xs
 
 pub chunk_told : (xs : List ℕ) → Told (chunk_explained xs)
 unfolding chunk_explained
@@ -82,7 +81,7 @@ segment_small n xs = cond_both Small (eqb n 2) (lit< tt) (omega (arith, segment-
 pub segment_told : (xs : List ℕ) → Told (segment_explained xs)
 unfolding segment_explained
 segment_told xs =
-    let v : Checked = segment_checks xs in
+    let v : Result Unit Refusal = segment_checks xs in
     small_told (segment_explained xs) v (segment-number xs) (cond_both Small (eqb (checked_number v) 0) (lit< tt) (segment_small (checked_number v) xs))
 
 clash_small : (s : Slot) (bytes xs : List ℕ) → Small (clash_fault s bytes xs)
@@ -91,7 +90,7 @@ clash_small s bytes xs = cond_both Small s.spoiled (lit< tt) (cond_both Small (n
 pub gathered_told : (s : Slot) (bytes xs : List ℕ) → Told (gathered_explained s bytes xs)
 unfolding gathered_explained
 gathered_told s bytes xs =
-    let v : Checked = segment_checks xs in
+    let v : Result Unit Refusal = segment_checks xs in
     let clash : Bool = clashing s bytes xs in
-    small_told (gathered_explained s bytes xs) (and_then v (check clash (Fault Clash) Fine)) (gathered-number s bytes xs)
+    small_told (gathered_explained s bytes xs) (and_then v (check clash (Err Clash) (Ok tt))) (gathered-number s bytes xs)
     (cond_both Small (eqb (checked_number v) 0) (cond_both Small clash (clash_small s bytes xs) (lit< tt)) (segment_small (checked_number v) xs))

@@ -2,7 +2,7 @@
 use Rattle.std.specs.Prelude.{ℕ, ◌+◌, ◌*◌, ◌/◌, ◌%◌, ◌≡◌, List}
 use Rattle.wrapper.specs.declared.Numbers.{Numbers}
 use Rattle.wrapper.specs.declared.Values.{Values}
-use Rattle.wrapper.specs.Wrap.{writer, wrapped_values, Result, wrapped, closed}
+use Rattle.wrapper.specs.Wrap.{writer, wrapped_values, Outcome, wrapped, closed}
 
 -- eight bits for the number, eight that are 0, sixteen for the bytes written, and 32 for the timestamp of the first byte that is left
 abbrev pub packed_wrapped : Values → ℕ → ℕ
@@ -17,7 +17,7 @@ abbrev pub packed_writer : Numbers → ℕ
 packed_writer m = m.size + m.next * 0x10000 + m.left * 0x100000000 + m.begin * 0x1000000000000
 
 -- what a call of the writer tells: the answer, the numbers to be kept, and both memories after
-pub record Tells (u : Result) (answer left : ℕ) (bytes output : List ℕ) : Type 0 where
+pub record Tells (u : Outcome) (answer left : ℕ) (bytes output : List ℕ) : Type 0 where
   pub answers : answer ≡ packed_wrapped (wrapped_values u.answer) u.writer.numbers.timestamp
   pub keeps : left ≡ packed_writer u.writer.numbers
   pub holds : bytes ≡ u.writer.bytes

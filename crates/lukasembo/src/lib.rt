@@ -23,42 +23,37 @@ ghost use Rattle.lukasembo.specs.Wraps.{packed_wrapped, writer_in, packed_writer
 use explains::{Explained, Field};
 use fields::Table;
 use guides::{Answer, Gathering};
-use meaning::Read;
+use meaning::{Kind, Listed, Refusal};
 use slots::Slot;
-use store::Next;
 use tunnel::{Numbers, Unwrapped};
-use writer::Written;
+use writer::Unwritten;
 
 // The reader's answer as one number.
-fn pack_read(answer: Read) -> u64
+fn pack_read(answer: Result<Listed, Refusal>) -> u64
     requires { ((read_values answer).length ≤ longest_listing) × ((read_values answer).at ≤ longest_chunk) }
     ensures { result ≡ packed_read answer }
 {
     match answer {
-        Read::Listed {
-            kind,
-            minor,
-            length,
-        } => {
-            let current = meaning::current_of(kind);
-            current as u64 * 0x100 + minor as u64 * 0x200 + length as u64 * 0x10000
+        Ok(listed) => {
+            let current = u8::from(listed.kind);
+            current as u64 * 0x100 + listed.minor as u64 * 0x200 + listed.length as u64 * 0x10000
         }
-        Read::Refused(refusal) => {
-            let number = meaning::number_of(refusal);
-            let at = meaning::offset_of(refusal);
+        Err(refusal) => {
+            let number = u8::from(refusal);
+            let at = refusal.offset();
             number as u64 + at as u64 * 0x100000000
         }
     }
 }
 
 // The writer's answer as one number.
-fn pack_written(answer: Written) -> u64
+fn pack_written(answer: Result<usize, Unwritten>) -> u64
     requires { (written_values answer).count ≤ most_segments }
     ensures { result ≡ packed_written answer }
 {
     match answer {
-        Written::Segments(count) => count as u64 * 0x10000,
-        Written::Refused(refusal) => writer::unwritten_number(refusal) as u64,
+        Ok(count) => count as u64 * 0x10000,
+        Err(refusal) => u8::from(refusal) as u64,
     }
 }
 
@@ -74,7 +69,7 @@ pub fn lukasembo_read(chunk: &[u8], buffer: &mut [u8]) -> u64
 pub fn lukasembo_write(listing: &[u8], current: u8, output: &mut [u8]) -> u64
     ensures { (result ≡ packed_written (write_answer listing.now (kind_of current) output.old)) × (output.new ≡ write_output listing.now (kind_of current) output.old) }
 {
-    let kind = meaning::kind_of(current);
+    let kind = Kind::from(current);
     let answer = writer::write(listing, kind, output);
     pack_written(answer)
 }
@@ -93,10 +88,14 @@ pub struct Step {
 fn unpack_numbers(packed: u64) -> Numbers
     ensures { result ≡ numbers_in packed }
 {
+    let held = (packed % 0x10000) as usize;
+    if packed / 0x100000000 == 0 {
+        return Numbers { last: None, held };
+    }
+    let last = (packed / 0x10000 % 0x10000) as u16;
     Numbers {
-        begun: packed / 0x100000000 != 0,
-        last: (packed / 0x10000 % 0x10000) as u16,
-        held: (packed % 0x10000) as usize,
+        last: Some(last),
+        held,
     }
 }
 
@@ -104,47 +103,40 @@ fn pack_numbers(numbers: Numbers) -> u64
     requires { numbers.held < 65536 }
     ensures { result ≡ packed_numbers numbers }
 {
-    let low = numbers.held as u64 + numbers.last as u64 * 0x10000;
-    if numbers.begun {
-        return low + 0x100000000;
+    match numbers.last {
+        Some(last) => numbers.held as u64 + last as u64 * 0x10000 + 0x100000000,
+        None => numbers.held as u64,
     }
-    low
 }
 
 // What the caller keeps after an answer: where nothing changes, what was given.
-fn left_numbers(answer: Unwrapped, before: u64, after: Numbers) -> u64
+fn left_numbers(answer: Result<Unwrapped, tunnel::Refusal>, before: u64, after: Numbers) -> u64
     requires { after.held < 65536 }
     ensures { result ≡ numbers_left answer before after }
 {
     match answer {
-        Unwrapped::Stored {
-            stored: _,
-            gap: _,
-            lost: _,
-        } => pack_numbers(after),
-        Unwrapped::Repeat => before,
-        Unwrapped::ShortOutput => before,
-        Unwrapped::Foreign => before,
-        Unwrapped::BadOffset { gap: _, lost: _ } => pack_numbers(after),
+        Ok(
+            Unwrapped::Stored {
+                stored: _,
+                gap: _,
+                lost: _,
+            },
+        ) => pack_numbers(after),
+        Ok(Unwrapped::Repeat) => before,
+        Err(tunnel::Refusal::ShortOutput) => before,
+        Err(tunnel::Refusal::Foreign) => before,
+        Err(tunnel::Refusal::BadOffset { gap: _, lost: _ }) => pack_numbers(after),
     }
 }
 
 // The tunnel's answer as one number.
-fn pack_unwrapped(answer: Unwrapped) -> u64
+fn pack_unwrapped(answer: Result<Unwrapped, tunnel::Refusal>) -> u64
     requires { ((unwrapped_values answer).stored < 65536) × ((unwrapped_values answer).lost < 65536) }
     ensures { result ≡ packed_unwrapped answer }
 {
-    match answer {
-        Unwrapped::Stored { stored, gap, lost } => {
-            gap as u64 * 0x10000 + stored as u64 * 0x100000000 + lost as u64 * 0x1000000000000
-        }
-        Unwrapped::Repeat => 0x100,
-        Unwrapped::ShortOutput => 1,
-        Unwrapped::Foreign => 16,
-        Unwrapped::BadOffset { gap, lost } => {
-            17 + gap as u64 * 0x10000 + lost as u64 * 0x1000000000000
-        }
-    }
+    let v = tunnel::values_of(answer);
+    let low = v.number as u64 + v.repeat as u64 * 0x100 + v.gap as u64 * 0x10000;
+    low + v.stored as u64 * 0x100000000 + v.lost as u64 * 0x1000000000000
 }
 
 // Reads an outer packet: the inner packets that it finishes go to the start of the output.
@@ -171,9 +163,9 @@ pub fn lukasembo_next_packet(store: &[u8], at: usize) -> u64
     ensures { result ≡ packed_next (next_in (drop at store.now)) }
 {
     match store::next_at(store, at) {
-        Next::End => 0,
-        Next::Packet(n) => n as u64 * 0x10000,
-        Next::Broken => 15,
+        Ok(Some(n)) => n as u64 * 0x10000,
+        Ok(None) => 0,
+        Err(broken) => u8::from(broken) as u64,
     }
 }
 
@@ -209,7 +201,7 @@ fn pack_wrapped(values: wrapper::Values, timestamp: u32) -> u64
 }
 
 // What a call gave, as the caller gets it.
-fn pack_given(answer: wrapper::Wrapped, numbers: wrapper::Numbers) -> Step
+fn pack_given(answer: Result<usize, wrapper::Refusal>, numbers: wrapper::Numbers) -> Step
     requires { ((wrapped_values answer).wrote < 65536) × (numbers.size < 65536) × (numbers.left < 65536) × (numbers.begin < 65536) }
     ensures { (result.answer ≡ packed_wrapped (wrapped_values answer) numbers.timestamp) × (result.numbers ≡ packed_writer numbers) }
 {

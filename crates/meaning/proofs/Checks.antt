@@ -8,20 +8,19 @@ use native.Mathlib.Omega.{arith}
 use borrow.Author.Tests.{ltb-false, lt-ltb, le-ltb, eq-eqb, ne_eqb, eqb-true, not-false}
 use lib.Dec.{ltb}
 use lib.ListN.{length}
+use Rattle.std.proofs.Common.{Result, Ok, Err}
 use Rattle.octets.specs.Checks.{check}
 use Rattle.octets.proofs.Laws.{check_follows}
 use Rattle.meaning.specs.declared.Refusal.{Refusal}
 use Rattle.meaning.specs.declared.Part.TheVariants.{Header, EnsembleFields, SingleService}
 use Rattle.meaning.specs.declared.Refusal.TheVariants.{OtherMajor, TooLong, EndsEarly}
-use Rattle.meaning.specs.declared.Checked.{Checked}
-use Rattle.meaning.specs.declared.Checked.TheVariants.{Fine, Fault}
 use Rattle.meaning.specs.Sizes.{longest_chunk, chunk_header_bytes, ensemble_bytes, service_bytes}
 use Rattle.meaning.specs.Reading.{checks, ensembles_in, ensembles_checks, major_in, h_in, services_room, whole_services, inside, past}
 
-pub fault≢fine : {f : Refusal} → Fault f ≡ Fine → ⊥
+pub fault≢fine : {f : Refusal} → ◌≡◌ {A = Result Unit Refusal} (Err f) (Ok tt) → ⊥
 fault≢fine p = let z : ◌≡◌ {A = ℕ} 0 1 = cc in omega arith
 
-pub check_passed : (b : Bool) (f : Refusal) (r : Checked) → check b (Fault f) r ≡ Fine → (b ≡ false) × (r ≡ Fine)
+pub check_passed : (b : Bool) (f : Refusal) (r : Result Unit Refusal) → check b (Err f) r ≡ Ok tt → (b ≡ false) × (r ≡ Ok tt)
 check_passed b f r = check_follows b fault≢fine
 
 -- the services of an ensemble take few bytes
@@ -41,7 +40,7 @@ module _ (e s n at : ℕ) (ys : List ℕ) where
   abbrev next : ℕ
   next = at + (ensemble_bytes + e) + services_room e s ys
 
-  pub ensemble-passes : ensembles_checks e s (suc n) at ys ≡ Fine → EnsemblePasses e s ys × (ensembles_checks e s n next (past e s ys) ≡ Fine)
+  pub ensemble-passes : ensembles_checks e s (suc n) at ys ≡ Ok tt → EnsemblePasses e s ys × (ensembles_checks e s n next (past e s ys) ≡ Ok tt)
   unfolding ensembles_checks
   ensemble-passes p =
       let a = check_passed _ _ _ p in
@@ -52,11 +51,11 @@ module _ (e s n at : ℕ) (ys : List ℕ) where
   unfolding ensembles_checks
   ensemble_next h = simp (le-ltb _ _ h.fields, le-ltb _ _ h.services) refl
 
-  pub ensemble-short : length ys < ensemble_bytes + e → ensembles_checks e s (suc n) at ys ≡ Fault (EndsEarly EnsembleFields at)
+  pub ensemble-short : length ys < ensemble_bytes + e → ensembles_checks e s (suc n) at ys ≡ Err (EndsEarly EnsembleFields at)
   unfolding ensembles_checks
   ensemble-short h = simp (lt-ltb _ _ h) refl
 
-  pub ensemble_crowded : ensemble_bytes + e ≤ length ys → length (inside e ys) < services_room e s ys → ensembles_checks e s (suc n) at ys ≡ Fault (EndsEarly SingleService (at + (ensemble_bytes + e) + whole_services s (length (inside e ys))))
+  pub ensemble_crowded : ensemble_bytes + e ≤ length ys → length (inside e ys) < services_room e s ys → ensembles_checks e s (suc n) at ys ≡ Err (EndsEarly SingleService (at + (ensemble_bytes + e) + whole_services s (length (inside e ys))))
   unfolding ensembles_checks
   ensemble_crowded h r = simp (le-ltb _ _ h, lt-ltb _ _ r) refl
 
@@ -66,7 +65,7 @@ pub record HeaderPasses (xs : List ℕ) : Type 0 where
   pub major : major_in xs ≡ 0
   pub fields : chunk_header_bytes + h_in xs ≤ length xs
 
-pub header-passes : (xs : List ℕ) → checks xs ≡ Fine → HeaderPasses xs × (ensembles_in xs ≡ Fine)
+pub header-passes : (xs : List ℕ) → checks xs ≡ Ok tt → HeaderPasses xs × (ensembles_in xs ≡ Ok tt)
 unfolding checks
 header-passes xs p =
     let a = check_passed _ TooLong _ p in
@@ -84,21 +83,21 @@ header-passes xs p =
 -- ---- when a header is refused, and with what
 
 module _ (xs : List ℕ) where
-  pub checks_long : longest_chunk < length xs → checks xs ≡ Fault TooLong
+  pub checks_long : longest_chunk < length xs → checks xs ≡ Err TooLong
   unfolding checks
   checks_long h = simp (lt-ltb _ _ h)
 
-  pub checks_bare : length xs < 2 → checks xs ≡ Fault (EndsEarly Header 0)
+  pub checks_bare : length xs < 2 → checks xs ≡ Err (EndsEarly Header 0)
   unfolding checks
   checks_bare h =
       let small : length xs ≤ longest_chunk = omega arith in
       simp (le-ltb _ _ small, lt-ltb _ _ h)
 
-  pub checks-major : length xs ≤ longest_chunk → 2 ≤ length xs → (major_in xs ≡ 0 → ⊥) → checks xs ≡ Fault OtherMajor
+  pub checks-major : length xs ≤ longest_chunk → 2 ≤ length xs → (major_in xs ≡ 0 → ⊥) → checks xs ≡ Err OtherMajor
   unfolding checks
   checks-major l t m = simp (le-ltb _ _ l, le-ltb _ _ t, ne_eqb _ _ m)
 
-  pub checks-cut : length xs ≤ longest_chunk → 2 ≤ length xs → major_in xs ≡ 0 → length xs < chunk_header_bytes + h_in xs → checks xs ≡ Fault (EndsEarly Header 0)
+  pub checks-cut : length xs ≤ longest_chunk → 2 ≤ length xs → major_in xs ≡ 0 → length xs < chunk_header_bytes + h_in xs → checks xs ≡ Err (EndsEarly Header 0)
   unfolding checks
   checks-cut l t m h = simp (le-ltb _ _ l, le-ltb _ _ t, eq-eqb _ _ m, lt-ltb _ _ h)
 
@@ -108,5 +107,5 @@ module _ (xs : List ℕ) where
       let two : 2 ≤ length xs = omega (arith, h.fields) in
       simp (le-ltb _ _ h.longest, le-ltb _ _ two, eq-eqb _ _ h.major, le-ltb _ _ h.fields)
 
-  pub header_fine : HeaderPasses xs → ensembles_in xs ≡ Fine → checks xs ≡ Fine
+  pub header_fine : HeaderPasses xs → ensembles_in xs ≡ Ok tt → checks xs ≡ Ok tt
   header_fine h p = checks-header h ∙ p

@@ -7,12 +7,12 @@ use native.Mathlib.Omega.{arith}
 use lib.Dec.{eqb}
 use lib.ListN.{length, get_or, drop, length-append}
 use lib.Seq.{drop_at, get_or_at}
+use Rattle.std.proofs.Common.{Ok}
 use Rattle.octets.specs.Bits.{Field, field, InWidth, Held, run}
 use Rattle.octets.specs.Each.{Each}
 use Rattle.octets.specs.Word.{word_bytes}
 use Rattle.octets.proofs.Laws.{each_left, each_right, word-high-low}
 use Rattle.meaning.specs.declared.Kind.{Kind}
-use Rattle.meaning.specs.declared.Checked.TheVariants.{Fine}
 use Rattle.meaning.specs.Sizes.{longest_chunk, chunk_header_bytes, ensemble_bytes, service_bytes}
 use Rattle.meaning.specs.Lists.{known, unknown, FicList, kind_of}
 use Rattle.meaning.specs.Layout.{ServiceRow, service_fields, EnsembleRow, ensemble_head, ensemble_fields, Chunk, chunk_head, chunk_fields, Formed, service_of, known_in, ensemble_of, list_of, wire, Carries}
@@ -135,7 +135,7 @@ module _ (e s : ℕ) where
       (ap (ensembles_at e s (length xs)) (past_row e s x w.0 more)
       ∙ ensembles-read xs rest (each_right InWidth (ensemble_fields x) (flat_map ensemble_fields xs) h) w.1)
 
-  ensembles_fine : (xs : List EnsembleRow) (at : ℕ) (rest : List ℕ) → Each (Widened e s) xs → ensembles_checks e s (length xs) at (flat_map ensemble_row xs ++ rest) ≡ Fine
+  ensembles_fine : (xs : List EnsembleRow) (at : ℕ) (rest : List ℕ) → Each (Widened e s) xs → ensembles_checks e s (length xs) at (flat_map ensemble_row xs ++ rest) ≡ Ok tt
   unfolding flat_map
   ensembles_fine [] at rest w = unfold ensembles_checks in refl
   ensembles_fine (x ∷ xs) at rest w =
@@ -217,7 +217,7 @@ module _ (c : Chunk) (t : Formed c) where
         fields = omega (arith, h-read, front_length_read, length-append (chunk_front c) (flat_map ensemble_row c.ensembles ++ c.stuffing));
       }
 
-  payload_fine : (at : ℕ) → ensembles_checks (e_in xs) (s_in xs) (count_in xs) at (after_header xs) ≡ Fine
+  payload_fine : (at : ℕ) → ensembles_checks (e_in xs) (s_in xs) (count_in xs) at (after_header xs) ≡ Ok tt
   unfolding rest
   payload_fine at =
       (λ i. ensembles_checks (e-read i) (s_read i) (count_read i) at (after_header-read i))

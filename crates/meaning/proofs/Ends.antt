@@ -8,14 +8,12 @@ use native.Mathlib.Omega.{arith}
 use borrow.Author.Tests.{ltb-true, ltb-false, eqb-true, eqb-false}
 use lib.Dec.{ltb, eqb, lit<}
 use lib.ListN.{length, replicate, length-append, length-drop, length-replicate, get_or-append}
+use Rattle.std.proofs.Common.{Result, Ok, Err}
 use Rattle.octets.specs.Bits.{Bytes}
 use Rattle.octets.proofs.Laws.{either, check_follows, bytes_drop, bytes-append, get_d_byte}
 use Rattle.meaning.specs.declared.Part.{Part}
 use Rattle.meaning.specs.declared.Refusal.{Refusal}
 use Rattle.meaning.specs.declared.Refusal.TheVariants.{ShortBuffer, EndsEarly}
-use Rattle.meaning.specs.declared.Checked.{Checked}
-use Rattle.meaning.specs.declared.Checked.TheVariants.{Fine, Fault}
-use Rattle.meaning.specs.declared.Read.TheVariants.{Refused}
 use Rattle.meaning.specs.Sizes.{longest_chunk, longest_listing, chunk_header_bytes, ensemble_bytes, service_bytes}
 use Rattle.meaning.specs.Numbers.{number_of, offset_of, checked_number, read_fault}
 use Rattle.meaning.specs.Ends.{Thing, thing_bytes, things, FirstCut, EndsIn}
@@ -28,10 +26,10 @@ use Rattle.meaning.proofs.Things.{walked, walked_none, walked_cut, walked_whole,
 
 -- ---- the walk, and the first thing that is cut
 
-early_once : {p q : Part} {i j : ℕ} → Fault (EndsEarly p i) ≡ Fault (EndsEarly q j) → (p ≡ q) × (i ≡ j)
+early_once : {p q : Part} {i j : ℕ} → ◌≡◌ {A = Result Unit Refusal} (Err (EndsEarly p i)) (Err (EndsEarly q j)) → (p ≡ q) × (i ≡ j)
 early_once is = (cc is, cc is)
 
-walked_first : (b : ℕ) (ts : List Thing) (n : ℕ) (p : Part) (o : ℕ) → b ≤ n → walked b ts n ≡ Fault (EndsEarly p o) → (b ≤ o) × FirstCut ts (n - b) p (o - b)
+walked_first : (b : ℕ) (ts : List Thing) (n : ℕ) (p : Part) (o : ℕ) → b ≤ n → walked b ts n ≡ Err (EndsEarly p o) → (b ≤ o) × FirstCut ts (n - b) p (o - b)
 unfolding flat_map
 walked_first b [] n p o l is = absurd (fault≢fine (sym is ∙ walked_none b n))
 walked_first b (t ∷ ts) n p o l is =
@@ -69,31 +67,31 @@ walked_first b (t ∷ ts) n p o l is =
       },
     ))
 
-first_walked : (b m : ℕ) (before : List Thing) (thing : Thing) (after : List Thing) → let o = b + length (flat_map thing_bytes before) in o ≤ m → m < o + length (thing_bytes thing) → walked b (before ++ thing ∷ after) m ≡ Fault (EndsEarly thing.part o)
+first_walked : (b m : ℕ) (before : List Thing) (thing : Thing) (after : List Thing) → let o = b + length (flat_map thing_bytes before) in o ≤ m → m < o + length (thing_bytes thing) → walked b (before ++ thing ∷ after) m ≡ Err (EndsEarly thing.part o)
 unfolding flat_map
 first_walked b m [] thing after l h =
     let here : b ≡ b + 0 = omega arith in
-    walked_cut b thing after m (omega arith) ∙ ap (λ (k : ℕ). Fault (EndsEarly thing.part k)) here
+    walked_cut b thing after m (omega arith) ∙ ap (λ (k : ℕ). Err (EndsEarly thing.part k)) here
 first_walked b m (t ∷ before) thing after l h =
     let next : ℕ = b + length (thing_bytes t) in
     let same : next + length (flat_map thing_bytes before) ≡ b + length (thing_bytes t ++ flat_map thing_bytes before) = omega (arith, length-append (thing_bytes t) (flat_map thing_bytes before)) in
     walked_whole b t (before ++ thing ∷ after) m (omega (arith, same))
     ∙ first_walked next m before thing after (omega (arith, same)) (omega (arith, same))
-    ∙ ap (λ (k : ℕ). Fault (EndsEarly thing.part k)) same
+    ∙ ap (λ (k : ℕ). Err (EndsEarly thing.part k)) same
 
 -- what ends early is refused with 9, and is told so
-pub ends_told : {xs : List ℕ} {p : Part} {at : ℕ} → EndsIn xs p at → length xs ≤ longest_chunk → checks xs ≡ Fault (EndsEarly p at)
+pub ends_told : {xs : List ℕ} {p : Part} {at : ℕ} → EndsIn xs p at → length xs ≤ longest_chunk → checks xs ≡ Err (EndsEarly p at)
 ends_told {xs} {p} {at} h l =
     let f = h.first in
     let offset : 0 + length (flat_map thing_bytes f.before) ≡ at = omega (arith, f.offset) in
     checks_walked h.chunk h.formed xs h.lacking h.bytes l h.major
     ∙ ap (λ (ts : List Thing). walked 0 ts (length xs)) f.order
     ∙ first_walked 0 (length xs) f.before f.thing f.after (omega (arith, f.offset, f.whole)) (omega (arith, f.offset, f.cut))
-    ∙ (λ i. Fault (EndsEarly (f.part i) (offset i)))
+    ∙ (λ i. Err (EndsEarly (f.part i) (offset i)))
 
 -- ---- what follows the cut may be anything, so zeros do, if there are enough of them
 
-room_fine : (e s n at : ℕ) (ys : List ℕ) → e < 8 → s < 8 → Bytes ys → n * 2570 ≤ length ys → ensembles_checks e s n at ys ≡ Fine
+room_fine : (e s n at : ℕ) (ys : List ℕ) → e < 8 → s < 8 → Bytes ys → n * 2570 ≤ length ys → ensembles_checks e s n at ys ≡ Ok tt
 room_fine e s zero at ys u v b r = unfold ensembles_checks in refl
 room_fine e s (suc n) at ys u v b r =
     let few : services_room e s ys < 2560 = room_small (get_d_byte ys (3 + e) b) v in
@@ -110,7 +108,7 @@ bytes-zeros zero = tt
 bytes-zeros (suc n) = (lit< tt, bytes-zeros n)
 
 -- 8 comes before 9
-told_short : (xs : List ℕ) {p : Part} {at : ℕ} → checks xs ≡ Fault (EndsEarly p at) → length xs ≤ longest_chunk
+told_short : (xs : List ℕ) {p : Part} {at : ℕ} → checks xs ≡ Err (EndsEarly p at) → length xs ≤ longest_chunk
 told_short xs is =
     either (ltb longest_chunk (length xs))
     (λ q. absurd (omega (arith, ap checked_number (sym (checks_long xs (ltb-true _ _ q)) ∙ is))))
@@ -135,7 +133,7 @@ module _ (xs : List ℕ) (b : Bytes xs) where
   unfolding enough
   filled-header = omega (arith, filled_long)
 
-  filled-passes : ensembles_in filled ≡ Fine
+  filled-passes : ensembles_in filled ≡ Ok tt
   unfolding enough
   filled-passes =
       let second = get_d_byte filled 1 filled-bytes in
@@ -144,7 +142,7 @@ module _ (xs : List ℕ) (b : Bytes xs) where
       (bytes_drop (chunk_header_bytes + h_in filled) filled filled-bytes)
       (omega (arith, filled_long, count, length-drop (chunk_header_bytes + h_in filled) filled))
 
-  told_major : {p : Part} {at : ℕ} → checks xs ≡ Fault (EndsEarly p at) → 2 ≤ length xs → (chunk_at filled).major ≡ 0
+  told_major : {p : Part} {at : ℕ} → checks xs ≡ Err (EndsEarly p at) → 2 ≤ length xs → (chunk_at filled).major ≡ 0
   unfolding filled
   told_major is two =
       let same : major_in (xs ++ lacks) ≡ major_in xs = ap (λ (k : ℕ). k / 64) (get_or-append xs lacks 0 0 (omega arith)) in
@@ -154,7 +152,7 @@ module _ (xs : List ℕ) (b : Bytes xs) where
       (λ q. absurd (omega (arith, ap checked_number (sym (checks-major xs (told_short xs is) two (eqb-false _ _ q)) ∙ is))))
 
 -- what is refused with 9 ends early, as it is told
-pub told_ends : {xs : List ℕ} {p : Part} {at : ℕ} → Bytes xs → checks xs ≡ Fault (EndsEarly p at) → EndsIn xs p at
+pub told_ends : {xs : List ℕ} {p : Part} {at : ℕ} → Bytes xs → checks xs ≡ Err (EndsEarly p at) → EndsIn xs p at
 unfolding filled
 told_ends {xs} {p} {at} b is =
     let c = chunk_at (filled xs b) in
@@ -181,9 +179,9 @@ ends_once h k l = early_once (sym (ends_told h l) ∙ ends_told k l)
 
 -- ---- the offset that is told is within the chunk, whatever the chunk
 
-pub Within : ℕ → Checked → Type 0
-Within m Fine = Unit {0}
-Within m (Fault f) = offset_of f ≤ m
+pub Within : ℕ → Result Unit Refusal → Type 0
+Within m (Ok _) = Unit {0}
+Within m (Err f) = offset_of f ≤ m
 
 ensembles-within : (e s n at : ℕ) (ys : List ℕ) → Within (at + length ys) (ensembles_checks e s n at ys)
 unfolding Within
@@ -225,36 +223,36 @@ checks-within xs =
     (rw end at (ensembles-within (e_in xs) (s_in xs) (count_in xs) (chunk_header_bytes + h_in xs) (after_header xs)))))
     (λ q. rw (checks-major xs l two (eqb-false _ _ q)) (omega arith))))
 
-pub told_within : (xs : List ℕ) {f : Refusal} → checks xs ≡ Fault f → offset_of f ≤ length xs
+pub told_within : (xs : List ℕ) {f : Refusal} → checks xs ≡ Err f → offset_of f ≤ length xs
 unfolding Within
 told_within xs is = rw is at (checks-within xs)
 
 -- and at most 560, since a longer chunk is refused with 8
-pub told_small : (xs : List ℕ) (f : Refusal) → checks xs ≡ Fault f → offset_of f ≤ longest_chunk
+pub told_small : (xs : List ℕ) (f : Refusal) → checks xs ≡ Err f → offset_of f ≤ longest_chunk
 told_small xs f is =
     either (ltb longest_chunk (length xs))
     (λ q. omega (arith, ap fault_offset (sym (checks_long xs (ltb-true _ _ q)) ∙ is)))
     (λ q. let short = ltb-false longest_chunk (length xs) q in omega (arith, told_within xs is))
   where
-    fault_offset : Checked → ℕ
-    fault_offset Fine = 0
-    fault_offset (Fault f) = offset_of f
+    fault_offset : Result Unit Refusal → ℕ
+    fault_offset (Ok _) = 0
+    fault_offset (Err f) = offset_of f
 
 -- ---- the public call
 
 -- a refusal with 9 is the checks' on the chunk
-answer_told : (xs before : List ℕ) (f : Refusal) → number_of f ≡ 9 → read_answer xs before ≡ Refused f → checks xs ≡ Fault f
+answer_told : (xs before : List ℕ) (f : Refusal) → number_of f ≡ 9 → read_answer xs before ≡ Err f → checks xs ≡ Err f
 answer_told xs before f nine is =
-    let told : read_checks xs before ≡ Fault f = sym (answer_exactly xs before) ∙ ap read_fault is in
-    (check_follows (ltb (length before) longest_listing) {answer = Fault ShortBuffer} (λ same. omega (arith, nine, ap checked_number same)) told).1
+    let told : read_checks xs before ≡ Err f = sym (answer_exactly xs before) ∙ ap read_fault is in
+    (check_follows (ltb (length before) longest_listing) {answer = Err ShortBuffer} (λ same. omega (arith, nine, ap checked_number same)) told).1
 
-pub answer_ends : {xs : List ℕ} {p : Part} {at : ℕ} → Bytes xs → (before : List ℕ) → read_answer xs before ≡ Refused (EndsEarly p at) → EndsIn xs p at
+pub answer_ends : {xs : List ℕ} {p : Part} {at : ℕ} → Bytes xs → (before : List ℕ) → read_answer xs before ≡ Err (EndsEarly p at) → EndsIn xs p at
 answer_ends {xs} {p} {at} b before is = told_ends b (answer_told xs before (EndsEarly p at) refl is)
 
-pub ends_answer : {xs : List ℕ} {p : Part} {at : ℕ} → EndsIn xs p at → length xs ≤ longest_chunk → (before : List ℕ) → longest_listing ≤ length before → read_answer xs before ≡ Refused (EndsEarly p at)
+pub ends_answer : {xs : List ℕ} {p : Part} {at : ℕ} → EndsIn xs p at → length xs ≤ longest_chunk → (before : List ℕ) → longest_listing ≤ length before → read_answer xs before ≡ Err (EndsEarly p at)
 ends_answer {xs} h l before room = sym (says_refused xs before room (ends_told h l)).answers
 
-pub answer-within : (xs before : List ℕ) (f : Refusal) → read_answer xs before ≡ Refused f → offset_of f ≤ length xs
+pub answer-within : (xs before : List ℕ) (f : Refusal) → read_answer xs before ≡ Err f → offset_of f ≤ length xs
 answer-within xs before f is =
     either (eqb (number_of f) 9)
     (λ q. told_within xs (answer_told xs before f (eqb-true (number_of f) 9 q) is))

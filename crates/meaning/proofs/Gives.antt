@@ -4,39 +4,38 @@ use mathlib.Core.Bool.{Bool, true, false}
 use mathlib.Core.List.{List, ◌∷◌}
 use Prim.Native.Nat.{ℕ, zero, suc, ◌+◌, ◌<◌}
 use lib.Dec.{T, eqb, lit<}
+use Rattle.std.proofs.Common.{Result, Ok, Err}
 use Rattle.octets.specs.Checks.{check, among}
 use Rattle.octets.proofs.Laws.{either}
 use Rattle.meaning.specs.declared.Refusal.{Refusal}
 use Rattle.meaning.specs.declared.Refusal.TheVariants.{ShortBuffer, SegmentLength, SegmentType, ErrorBit, OtherMajor, NumberAboveLast, Clash, TooLong, EndsEarly, KindDiffers, BadDesk}
-use Rattle.meaning.specs.declared.Checked.{Checked}
-use Rattle.meaning.specs.declared.Checked.TheVariants.{Fine, Fault}
 use Rattle.meaning.specs.Sizes.{ensemble_bytes}
 use Rattle.meaning.specs.Numbers.{number_of, offset_of, checked_number}
 use Rattle.meaning.specs.Reading.{ensembles_checks, services_room, past}
 
 -- a refusal has a number among these
-pub Gives : List ℕ → Checked → Type 0
-Gives ns Fine = Unit {0}
-Gives ns (Fault f) = T (among ns (number_of f))
+pub Gives : List ℕ → Result Unit Refusal → Type 0
+Gives ns (Ok _) = Unit {0}
+Gives ns (Err f) = T (among ns (number_of f))
 
 module _ (ns : List ℕ) where
-  pub gives_fine : Gives ns Fine
+  pub gives_fine : Gives ns (Ok tt)
   unfolding Gives
   gives_fine = tt
 
-  pub gives_check : (t : Bool) (f : Refusal) (v : Checked) → T (among ns (number_of f)) → Gives ns v → Gives ns (check t (Fault f) v)
+  pub gives_check : (t : Bool) (f : Refusal) (v : Result Unit Refusal) → T (among ns (number_of f)) → Gives ns v → Gives ns (check t (Err f) v)
   unfolding Gives
   gives_check true f v m g = m
   gives_check false f v m g = g
 
-  pub given : {v : Checked} {f : Refusal} → v ≡ Fault f → Gives ns v → T (among ns (number_of f))
+  pub given : {v : Result Unit Refusal} {f : Refusal} → v ≡ Err f → Gives ns v → T (among ns (number_of f))
   unfolding Gives
   given e g = subst (Gives ns) e g
 
-  pub gives_number : (v : Checked) → Gives ns v → T (among (0 ∷ ns) (checked_number v))
+  pub gives_number : (v : Result Unit Refusal) → Gives ns v → T (among (0 ∷ ns) (checked_number v))
   unfolding Gives
-  gives_number Fine g = tt
-  gives_number (Fault f) g = either (eqb (number_of f) 0) (λ q. simp q tt) (λ q. simp q g)
+  gives_number (Ok _) g = tt
+  gives_number (Err f) g = either (eqb (number_of f) 0) (λ q. simp q tt) (λ q. simp q g)
 
   pub ensembles_give : T (among ns 9) → (e s n at : ℕ) (ys : List ℕ) → Gives ns (ensembles_checks e s n at ys)
   unfolding ensembles_checks

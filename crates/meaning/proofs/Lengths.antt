@@ -7,8 +7,8 @@ use native.Mathlib.Nat.{mul-le-mul_left, eq-zero-or-pos, le-add_right}
 use native.Mathlib.Omega.{arith}
 use lib.Dec.{eqb}
 use lib.ListN.{length, length-append, length-drop}
+use Rattle.std.proofs.Common.{Ok}
 use Rattle.octets.proofs.Laws.{either}
-use Rattle.meaning.specs.declared.Checked.TheVariants.{Fine}
 use Rattle.meaning.specs.Sizes.{chunk_header_bytes, ensemble_bytes, service_bytes, ts_bytes, en_bytes, eu_bytes, sv_bytes, longest_chunk, longest_listing}
 use Rattle.meaning.specs.Lists.{Service, Ensemble, known, unknown, ensemble_services, FicList, services_of, known_count, unknown_count}
 use Rattle.meaning.specs.Listing.{sv_record, ensemble_listing, listing}
@@ -66,7 +66,7 @@ services_most e s ys =
     (λ q. simp q (omega arith))
 
 -- each ensemble and each service has taken its bytes of the chunk
-ensembles_room : (e s n at : ℕ) (ys : List ℕ) → ensembles_checks e s n at ys ≡ Fine → ensemble_bytes * n + service_bytes * length (flat_map ensemble_services (ensembles_at e s n ys)) ≤ length ys
+ensembles_room : (e s n at : ℕ) (ys : List ℕ) → ensembles_checks e s n at ys ≡ Ok tt → ensemble_bytes * n + service_bytes * length (flat_map ensemble_services (ensembles_at e s n ys)) ≤ length ys
 unfolding flat_map ensembles_at
 ensembles_room e s zero at ys p = omega arith
 ensembles_room e s (suc n) at ys p =
@@ -86,7 +86,7 @@ ensembles_room e s (suc n) at ys p =
     )
 
 -- and so the list needs no more bytes than the chunk has
-pub list_room : (xs : List ℕ) → checks xs ≡ Fine → plain_length (list_in xs) ≤ length xs
+pub list_room : (xs : List ℕ) → checks xs ≡ Ok tt → plain_length (list_in xs) ≤ length xs
 unfolding list_in services_of
 list_room xs p =
     let h = header-passes xs p in
@@ -111,7 +111,7 @@ unfolding flat_map
 services_none [] z = refl
 services_none (e ∷ es) z = absurd (omega arith)
 
-pub listing-fits : (xs : List ℕ) → checks xs ≡ Fine → length (listing (list_in xs)) ≤ longest_listing
+pub listing-fits : (xs : List ℕ) → checks xs ≡ Ok tt → length (listing (list_in xs)) ≤ longest_listing
 unfolding services_of
 listing-fits xs p =
     let l : FicList = list_in xs in

@@ -4,15 +4,15 @@ use mathlib.Core.Path.{◌≡◌, refl}
 use mathlib.Core.List.{List, [], ◌∷◌, map, flat_map}
 use Prim.Native.Nat.{ℕ}
 use lib.ListN.{length, take, replicate}
+use Rattle.meaning.specs.declared.Refusal.{Refusal}
 use Rattle.meaning.specs.declared.Kind.{Kind}
 use Rattle.meaning.specs.declared.Kind.TheVariants.{This}
 use Rattle.meaning.specs.declared.Part.TheVariants.{SingleService}
-use Rattle.meaning.specs.declared.Checked.TheVariants.{Fine}
-use Rattle.meaning.specs.declared.Read.{Read}
-use Rattle.meaning.specs.declared.Read.TheVariants.{Listed, Refused}
+use Rattle.meaning.specs.declared.Listed.{Listed}
 use Rattle.meaning.specs.Sizes.{longest_listing}
 use Rattle.meaning.specs.Numbers.{read_values}
 use native.Mathlib.Omega.{arith}
+use Rattle.std.proofs.Common.{Result, Ok, Err}
 use Rattle.octets.specs.Bits.{bits, laid, number, octets, bytes_of}
 use Rattle.meaning.specs.Layout.{Chunk, service_fields, ensemble_head, ensemble_fields, chunk_head, chunk_fields, wire, Carries}
 use Rattle.meaning.specs.Lists.{known, unknown, FicList}
@@ -31,9 +31,9 @@ record Sample : Type 0 where
   minor : ℕ
   listed : List ℕ
 
-kind_of_answer : Read → List Kind
-kind_of_answer (Listed k m n) = k ∷ []
-kind_of_answer (Refused f) = []
+kind_of_answer : Result Listed Refusal → List Kind
+kind_of_answer (Ok l) = l.kind ∷ []
+kind_of_answer (Err f) = []
 
 -- what the definitions give for a chunk, with a buffer that is long enough
 given : List ℕ → Sample
@@ -157,6 +157,6 @@ unknown-carried = (accepted-carried (omega arith) (record { passes = refl; kind 
 longest_one : List ℕ
 longest_one = 0x00 ∷ 0x03 ∷ 0x01 ∷ 0x23 ∷ 1 ∷ 0x05 ∷ 0xE0 ∷ 0x83 ∷ 183 ∷ replicate 549 0
 
-pub longest_reached : (xs : List ℕ) × (checks xs ≡ Fine) × (length (listing (list_in xs)) ≡ longest_listing)
+pub longest_reached : (xs : List ℕ) × (checks xs ≡ Ok tt) × (length (listing (list_in xs)) ≡ longest_listing)
 unfolding longest_one checks ensembles_checks services_at ensembles_at list_in listing ensemble_listing flat_map
 longest_reached = (longest_one, refl, refl)

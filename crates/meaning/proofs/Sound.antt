@@ -9,12 +9,12 @@ use native.Mathlib.Omega.{arith}
 use lib.Dec.{eqb}
 use lib.ListN.{length, get_or, take, drop, length-drop, take-append-drop}
 use lib.Seq.{drop-drop, split_at, length-take-le}
+use Rattle.std.proofs.Common.{Ok}
 use Rattle.octets.specs.Bits.{field, InWidth, Held, run, Bytes}
 use Rattle.octets.specs.Each.{Each}
 use Rattle.octets.specs.Word.{word}
 use Rattle.octets.proofs.Laws.{each_append, each_join, high_word, low_word, bytes_take, bytes_drop, get_d_byte}
 use Rattle.meaning.specs.declared.Kind.{Kind}
-use Rattle.meaning.specs.declared.Checked.TheVariants.{Fine}
 use Rattle.meaning.specs.Sizes.{chunk_header_bytes, ensemble_bytes, service_bytes}
 use Rattle.meaning.specs.Lists.{Service, known, unknown, FicList}
 use Rattle.meaning.specs.Layout.{ServiceRow, service_fields, EnsembleRow, ensemble_head, ensemble_fields, Chunk, chunk_head, chunk_fields, wire, Formed, service_of, ensemble_of, list_of, Carries}
@@ -203,7 +203,7 @@ record RowsOf (e s n : ℕ) (ys : List ℕ) : Type 0 where
   widened : Each (λ x. (length x.extension ≡ e) × Each (λ v. length v.extension ≡ s) x.services) (ensemble_rows_at e s n ys)
   stuffing : Bytes (after e s n ys)
 
-rows_of : (e s n at : ℕ) (ys : List ℕ) → Bytes ys → ensembles_checks e s n at ys ≡ Fine → RowsOf e s n ys
+rows_of : (e s n at : ℕ) (ys : List ℕ) → Bytes ys → ensembles_checks e s n at ys ≡ Ok tt → RowsOf e s n ys
 unfolding flat_map ensemble_rows_at ensemble_row_at after
 rows_of e s zero at ys b p = record { held = tt; written = refl; widened = tt; stuffing = b }
 rows_of e s (suc n) at ys b p =
@@ -280,7 +280,7 @@ header_written (x ∷ y ∷ z ∷ u ∷ zs) b h =
     λ i. first i ∷ second i ∷ third i ∷ fourth i ∷ rest i
 
 -- a chunk that has its header, and whose ensembles pass
-module _ (xs : List ℕ) (b : Bytes xs) (h : chunk_header_bytes + h_in xs ≤ length xs) (p : ensembles_in xs ≡ Fine) where
+module _ (xs : List ℕ) (b : Bytes xs) (h : chunk_header_bytes + h_in xs ≤ length xs) (p : ensembles_in xs ≡ Ok tt) where
   rows : List EnsembleRow
   rows = ensemble_rows_at (e_in xs) (s_in xs) (count_in xs) (after_header xs)
 

@@ -8,14 +8,14 @@ use borrow.Author.Tests.{lt-ltb, le-ltb, ltb-true, ltb-false}
 use lib.Dec.{ltb}
 use lib.ListN.{length, get_or, drop, length-drop, get_or-append}
 use lib.Seq.{drop-append-le}
+use Rattle.std.proofs.Common.{Result, Ok, Err}
 use Rattle.octets.specs.Bits.{Field, InWidth, Held, run}
 use Rattle.octets.specs.Each.{Each}
 use Rattle.octets.specs.Checks.{check}
 use Rattle.octets.proofs.Laws.{either, each_left, each_right, bytes_made}
+use Rattle.meaning.specs.declared.Refusal.{Refusal}
 use Rattle.meaning.specs.declared.Part.TheVariants.{Header, EnsembleFields, SingleService}
 use Rattle.meaning.specs.declared.Refusal.TheVariants.{EndsEarly}
-use Rattle.meaning.specs.declared.Checked.{Checked}
-use Rattle.meaning.specs.declared.Checked.TheVariants.{Fine, Fault}
 use Rattle.meaning.specs.Sizes.{longest_chunk, chunk_header_bytes, ensemble_bytes, service_bytes}
 use Rattle.meaning.specs.Layout.{ServiceRow, service_fields, EnsembleRow, ensemble_head, ensemble_fields, Chunk, chunk_head, chunk_fields, wire, Formed}
 use Rattle.meaning.specs.Ends.{Thing, thing_bytes, service_thing, ensemble_things, things}
@@ -61,17 +61,17 @@ wire_things c t =
 -- ---- the walk
 
 -- the first of the things ts, from the offset at on, that does not end by the offset n
-pub walked : ℕ → List Thing → ℕ → Checked
-walked at [] n = Fine
+pub walked : ℕ → List Thing → ℕ → Result Unit Refusal
+walked at [] n = Ok tt
 walked at (t ∷ ts) n =
-    check (ltb n (at + length (thing_bytes t))) (Fault (EndsEarly t.part at))
+    check (ltb n (at + length (thing_bytes t))) (Err (EndsEarly t.part at))
     (walked (at + length (thing_bytes t)) ts n)
 
-pub walked_none : (at n : ℕ) → walked at [] n ≡ Fine
+pub walked_none : (at n : ℕ) → walked at [] n ≡ Ok tt
 unfolding walked
 walked_none at n = refl
 
-pub walked_cut : (at : ℕ) (t : Thing) (ts : List Thing) (n : ℕ) → n < at + length (thing_bytes t) → walked at (t ∷ ts) n ≡ Fault (EndsEarly t.part at)
+pub walked_cut : (at : ℕ) (t : Thing) (ts : List Thing) (n : ℕ) → n < at + length (thing_bytes t) → walked at (t ∷ ts) n ≡ Err (EndsEarly t.part at)
 unfolding walked
 walked_cut at t ts n h = simp (lt-ltb _ _ h) refl
 
@@ -108,7 +108,7 @@ module _ (s : ℕ) (ts : List Thing) (n : ℕ) where
       let wide : next + (n - next) / width * width ≡ at + ((n - next) / width + 1) * width = omega arith in
       wide ∙ ap (λ (k : ℕ). at + k * width) (sym more)
 
-  services-cut : (at : ℕ) (vs : List ServiceRow) → Held (flat_map service_fields vs) → Each (Extended s) vs → at ≤ n → n < at + length vs * width → walked at (map service_thing vs ++ ts) n ≡ Fault (EndsEarly SingleService (at + whole_services s (n - at)))
+  services-cut : (at : ℕ) (vs : List ServiceRow) → Held (flat_map service_fields vs) → Each (Extended s) vs → at ≤ n → n < at + length vs * width → walked at (map service_thing vs ++ ts) n ≡ Err (EndsEarly SingleService (at + whole_services s (n - at)))
   unfolding flat_map
   services-cut at [] h x l r = absurd (omega arith)
   services-cut at (v ∷ vs) h x l r =
@@ -121,12 +121,12 @@ module _ (s : ℕ) (ts : List Thing) (n : ℕ) where
       let none : (n - at) / width ≡ 0 = div-eq_of_lt (omega (arith, own)) in
       let here : at ≡ at + 0 * width = omega arith in
       walked_cut at (service_thing v) (map service_thing vs ++ ts) n short
-      ∙ ap (λ (k : ℕ). Fault (EndsEarly SingleService k)) (here ∙ ap (λ (k : ℕ). at + k * width) (sym none)))
+      ∙ ap (λ (k : ℕ). Err (EndsEarly SingleService k)) (here ∙ ap (λ (k : ℕ). at + k * width) (sym none)))
       (λ q.
       let whole = ltb-false n next q in
       walked_whole at (service_thing v) (map service_thing vs ++ ts) n whole
       ∙ services-cut next vs held x.1 whole (omega (arith, own))
-      ∙ ap (λ (k : ℕ). Fault (EndsEarly SingleService k)) (one_more at _ whole own))
+      ∙ ap (λ (k : ℕ). Err (EndsEarly SingleService k)) (one_more at _ whole own))
 
 -- ---- ensembles
 
@@ -189,7 +189,7 @@ module _ (e s : ℕ) where
       let crowded = ltb-true _ _ r in
       let left : n - start ≡ length (inside e ys) = omega (arith, wide, inner) in
       ensemble_crowded e s (length es) at ys fields crowded
-      ∙ (λ i. Fault (EndsEarly SingleService (sym wide i + whole_services s (sym left i))))
+      ∙ (λ i. Err (EndsEarly SingleService (sym wide i + whole_services s (sym left i))))
       ∙ sym (there ∙ services-cut s ts n start x.services held w.0.1 (omega (arith, wide)) (omega (arith, wide, inner, size))))
       (λ r.
       let fits = ltb-false _ _ r in

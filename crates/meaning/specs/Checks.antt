@@ -1,7 +1,7 @@
+use Rattle.std.specs.Prelude.{Result, Ok, Err}
+use Rattle.meaning.specs.declared.Refusal.{Refusal}
 -- Some checks, and then others.
-use Rattle.meaning.specs.declared.Checked.{Checked}
-use Rattle.meaning.specs.declared.Checked.TheVariants.{Fine, Fault}
 
-abbrev pub and_then : Checked → Checked → Checked
-and_then (Fault f) rest = Fault f
-and_then Fine rest = rest
+abbrev pub and_then : Result Unit Refusal → Result Unit Refusal → Result Unit Refusal
+and_then (Err f) rest = Err f
+and_then (Ok _) rest = rest

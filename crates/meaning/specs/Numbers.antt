@@ -1,11 +1,8 @@
 -- Document 01's numbers, and what an answer says in them.
-use Rattle.std.specs.Prelude.{ℕ}
+use Rattle.std.specs.Prelude.{ℕ, Result, Ok, Err}
 use Rattle.meaning.specs.declared.Refusal.{Refusal}
 use Rattle.meaning.specs.declared.Refusal.TheVariants.{ShortBuffer, SegmentLength, SegmentType, ErrorBit, OtherMajor, NumberAboveLast, Clash, TooLong, EndsEarly, KindDiffers, BadDesk}
-use Rattle.meaning.specs.declared.Checked.{Checked}
-use Rattle.meaning.specs.declared.Checked.TheVariants.{Fine, Fault}
-use Rattle.meaning.specs.declared.Read.{Read}
-use Rattle.meaning.specs.declared.Read.TheVariants.{Listed, Refused}
+use Rattle.meaning.specs.declared.Listed.{Listed}
 use Rattle.meaning.specs.Lists.{current_of}
 
 -- the table "The numbers"; the writer's are in writer/specs/Writing.antt. 11 is not given
@@ -37,9 +34,9 @@ offset_of KindDiffers = 0
 offset_of BadDesk = 0
 
 -- what some checks find: the refusal's number, 0 where they find nothing
-abbrev pub checked_number : Checked → ℕ
-checked_number Fine = 0
-checked_number (Fault f) = number_of f
+abbrev pub checked_number : Result Unit Refusal → ℕ
+checked_number (Ok _) = 0
+checked_number (Err f) = number_of f
 
 -- the reader's answer: its number, 0 where it is no refusal, and the offset that a refusal tells; the kind, 1 for this frame and 0 for the
 -- next; the minor edition; the listing's length. Where it is a refusal, the last three are 0
@@ -50,11 +47,11 @@ pub record ReadValues : Type 0 where
   pub minor : ℕ
   pub length : ℕ
 
-abbrev pub read_values : Read → ReadValues
-read_values (Listed k m n) = record { number = 0; at = 0; kind = current_of k; minor = m; length = n }
-read_values (Refused f) = record { number = number_of f; at = offset_of f; kind = 0; minor = 0; length = 0 }
+abbrev pub read_values : Result Listed Refusal → ReadValues
+read_values (Ok l) = record { number = 0; at = 0; kind = current_of l.kind; minor = l.minor; length = l.length }
+read_values (Err f) = record { number = number_of f; at = offset_of f; kind = 0; minor = 0; length = 0 }
 
 -- and whether it is a refusal, as checks say it
-abbrev pub read_fault : Read → Checked
-read_fault (Listed k m n) = Fine
-read_fault (Refused f) = Fault f
+abbrev pub read_fault : Result Listed Refusal → Result Unit Refusal
+read_fault (Ok _) = Ok tt
+read_fault (Err f) = Err f

@@ -1,15 +1,13 @@
 -- Document 01's reader: the fields by their places in a chunk, the checks in order, the list that is read, and what the public call answers
 -- and leaves in the lent buffer.
-use Rattle.std.specs.Prelude.{ℕ, zero, suc, ◌+◌, ◌*◌, ◌/◌, ◌%◌, ◌≡◌, not, cond, List, [], ◌∷◌, ◌++◌, ltb, eqb, length, get_or, drop}
+use Rattle.std.specs.Prelude.{ℕ, zero, suc, ◌+◌, ◌*◌, ◌/◌, ◌%◌, ◌≡◌, not, cond, List, [], ◌∷◌, ◌++◌, ltb, eqb, length, get_or, drop, Result, Ok, Err}
 use Rattle.octets.specs.Word.{word}
 use Rattle.octets.specs.Checks.{check}
+use Rattle.meaning.specs.declared.Refusal.{Refusal}
 use Rattle.meaning.specs.declared.Kind.{Kind}
 use Rattle.meaning.specs.declared.Part.TheVariants.{Header, EnsembleFields, SingleService}
 use Rattle.meaning.specs.declared.Refusal.TheVariants.{ShortBuffer, OtherMajor, TooLong, EndsEarly}
-use Rattle.meaning.specs.declared.Checked.{Checked}
-use Rattle.meaning.specs.declared.Checked.TheVariants.{Fine, Fault}
-use Rattle.meaning.specs.declared.Read.{Read}
-use Rattle.meaning.specs.declared.Read.TheVariants.{Listed, Refused}
+use Rattle.meaning.specs.declared.Listed.{Listed}
 use Rattle.meaning.specs.Sizes.{longest_chunk, chunk_header_bytes, ensemble_bytes, service_bytes, longest_listing}
 use Rattle.meaning.specs.Lists.{Service, Known, Unknown, Ensemble, known, unknown, FicList, kind_of}
 use Rattle.meaning.specs.Listing.{listing}
@@ -69,23 +67,23 @@ abbrev pub whole_services : ℕ → ℕ → ℕ
 whole_services s room = room / (service_bytes + s) * (service_bytes + s)
 
 -- n ensembles at the start of ys, which is the chunk from the offset at on
-unfoldable pub ensembles_checks : ℕ → ℕ → ℕ → ℕ → List ℕ → Checked
-ensembles_checks e s zero at ys = Fine
+unfoldable pub ensembles_checks : ℕ → ℕ → ℕ → ℕ → List ℕ → Result Unit Refusal
+ensembles_checks e s zero at ys = Ok tt
 ensembles_checks e s (suc n) at ys =
     let services = at + (ensemble_bytes + e) in
-    check (ltb (length ys) (ensemble_bytes + e)) (Fault (EndsEarly EnsembleFields at))  -- 9
-    (check (ltb (length (inside e ys)) (services_room e s ys)) (Fault (EndsEarly SingleService (services + whole_services s (length (inside e ys)))))  -- 9
+    check (ltb (length ys) (ensemble_bytes + e)) (Err (EndsEarly EnsembleFields at))  -- 9
+    (check (ltb (length (inside e ys)) (services_room e s ys)) (Err (EndsEarly SingleService (services + whole_services s (length (inside e ys)))))  -- 9
     (ensembles_checks e s n (services + services_room e s ys) (past e s ys)))
 
-abbrev pub ensembles_in : List ℕ → Checked
+abbrev pub ensembles_in : List ℕ → Result Unit Refusal
 ensembles_in xs = ensembles_checks (e_in xs) (s_in xs) (count_in xs) (chunk_header_bytes + h_in xs) (after_header xs)
 
-unfoldable pub checks : List ℕ → Checked
+unfoldable pub checks : List ℕ → Result Unit Refusal
 checks xs =
-    check (ltb longest_chunk (length xs)) (Fault TooLong)  -- 8
-    (check (ltb (length xs) 2) (Fault (EndsEarly Header 0))  -- 9
-    (check (not (eqb (major_in xs) 0)) (Fault OtherMajor)  -- 5
-    (check (ltb (length xs) (chunk_header_bytes + h_in xs)) (Fault (EndsEarly Header 0))  -- 9
+    check (ltb longest_chunk (length xs)) (Err TooLong)  -- 8
+    (check (ltb (length xs) 2) (Err (EndsEarly Header 0))  -- 9
+    (check (not (eqb (major_in xs) 0)) (Err OtherMajor)  -- 5
+    (check (ltb (length xs) (chunk_header_bytes + h_in xs)) (Err (EndsEarly Header 0))  -- 9
     (ensembles_in xs))))
 
 -- ---- the list
@@ -129,34 +127,37 @@ list_in xs =
 
 -- the chunk xs passes the checks, and is read as the list l for the frame k in the minor edition m
 pub record Accepts (xs : List ℕ) (k : Kind) (m : ℕ) (l : FicList) : Type 0 where
-  pub passes : checks xs ≡ Fine
+  pub passes : checks xs ≡ Ok tt
   pub kind : kind_in xs ≡ k
   pub minor : minor_in xs ≡ m
   pub list : list_in xs ≡ l
 
 -- ---- the public call, on a chunk xs and a lent buffer
 
-abbrev pub read_checks : List ℕ → List ℕ → Checked
+abbrev pub read_checks : List ℕ → List ℕ → Result Unit Refusal
 read_checks xs buffer =
-    check (ltb (length buffer) longest_listing) (Fault ShortBuffer)  -- 1
+    check (ltb (length buffer) longest_listing) (Err ShortBuffer)  -- 1
     (checks xs)
 
-abbrev pub read_for : Checked → List ℕ → Read
-read_for Fine xs = Listed (kind_in xs) (minor_in xs) (length (listing (list_in xs)))
-read_for (Fault f) xs = Refused f
+abbrev pub listed : Kind → ℕ → ℕ → Listed
+listed k m n = record { kind = k; minor = m; length = n }
 
-unfoldable pub read_answer : List ℕ → List ℕ → Read
+abbrev pub read_for : Result Unit Refusal → List ℕ → Result Listed Refusal
+read_for (Ok _) xs = Ok (listed (kind_in xs) (minor_in xs) (length (listing (list_in xs))))
+read_for (Err f) xs = Err f
+
+unfoldable pub read_answer : List ℕ → List ℕ → Result Listed Refusal
 read_answer xs buffer = read_for (read_checks xs buffer) xs
 
 -- the listing at the start, bytes past it as they were; a refusal leaves all as it was
-abbrev pub buffer_left : Read → List ℕ → List ℕ → List ℕ
-buffer_left (Listed k m n) xs buffer = listing (list_in xs) ++ drop n buffer
-buffer_left (Refused f) xs buffer = buffer
+abbrev pub buffer_left : Result Listed Refusal → List ℕ → List ℕ → List ℕ
+buffer_left (Ok l) xs buffer = listing (list_in xs) ++ drop l.length buffer
+buffer_left (Err f) xs buffer = buffer
 
 unfoldable pub read_buffer : List ℕ → List ℕ → List ℕ
 read_buffer xs buffer = buffer_left (read_answer xs buffer) xs buffer
 
 -- what the reader promises: of the chunk xs and the buffer before, its answer, and the buffer after
-pub record ReadSays (xs before : List ℕ) (answer : Read) (after : List ℕ) : Type 0 where
+pub record ReadSays (xs before : List ℕ) (answer : Result Listed Refusal) (after : List ℕ) : Type 0 where
   pub answers : answer ≡ read_answer xs before
   pub leaves : after ≡ read_buffer xs before

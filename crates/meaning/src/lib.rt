@@ -38,22 +38,12 @@ pub enum Refusal {
     BadDesk,
 }
 
-// What the checks on a chunk find.
+// What the reader answers to a chunk that it doesn't refuse: the kind and the minor version of its list, and the length of the listing.
 #[derive(Clone, Copy)]
-pub enum Checked {
-    Fine,
-    Fault(Refusal),
-}
-
-// What the reader answers.
-#[derive(Clone, Copy)]
-pub enum Read {
-    Listed {
-        kind: Kind,
-        minor: u8,
-        length: usize,
-    },
-    Refused(Refusal),
+pub struct Listed {
+    pub kind: Kind,
+    pub minor: u8,
+    pub length: usize,
 }
 
 // The longest chunk: 16 segments of 35 bytes.
@@ -89,56 +79,64 @@ pub const MOST_STATUS: u8 = 3;
 pub const MOST_SP: u8 = 1;
 
 // The kind that a current_next_indicator says.
-pub fn kind_of(current: u8) -> Kind
-    ensures { result ≡ kind_of current }
-{
-    if current == 1 { Kind::This } else { Kind::Next }
+impl From<u8> for Kind {
+    ghost from_gives = { λ current kind. kind ≡ kind_of current };
+
+    fn from(current: u8) -> Kind {
+        if current == 1 { Kind::This } else { Kind::Next }
+    }
 }
 
 // The current_next_indicator that says a kind.
-pub fn current_of(kind: Kind) -> u8
-    ensures { result ≡ current_of kind }
-{
-    match kind {
-        Kind::This => 1,
-        Kind::Next => 0,
+impl From<Kind> for u8 {
+    ghost from_gives = { λ kind current. current ≡ current_of kind };
+
+    fn from(kind: Kind) -> u8 {
+        match kind {
+            Kind::This => 1,
+            Kind::Next => 0,
+        }
     }
 }
 
 // The number of a refusal.
-pub fn number_of(refusal: Refusal) -> u8
-    ensures { result ≡ number_of refusal }
-{
-    match refusal {
-        Refusal::ShortBuffer => 1,
-        Refusal::SegmentLength => 2,
-        Refusal::SegmentType => 3,
-        Refusal::ErrorBit => 4,
-        Refusal::OtherMajor => 5,
-        Refusal::NumberAboveLast => 6,
-        Refusal::Clash => 7,
-        Refusal::TooLong => 8,
-        Refusal::EndsEarly { part: _, at: _ } => 9,
-        Refusal::KindDiffers => 10,
-        Refusal::BadDesk => 12,
+impl From<Refusal> for u8 {
+    ghost from_gives = { λ refusal number. number ≡ number_of refusal };
+
+    fn from(refusal: Refusal) -> u8 {
+        match refusal {
+            Refusal::ShortBuffer => 1,
+            Refusal::SegmentLength => 2,
+            Refusal::SegmentType => 3,
+            Refusal::ErrorBit => 4,
+            Refusal::OtherMajor => 5,
+            Refusal::NumberAboveLast => 6,
+            Refusal::Clash => 7,
+            Refusal::TooLong => 8,
+            Refusal::EndsEarly { part: _, at: _ } => 9,
+            Refusal::KindDiffers => 10,
+            Refusal::BadDesk => 12,
+        }
     }
 }
 
-// The offset in the chunk that a refusal tells, 0 where it tells none.
-pub fn offset_of(refusal: Refusal) -> u16
-    ensures { result ≡ offset_of refusal }
-{
-    match refusal {
-        Refusal::ShortBuffer => 0,
-        Refusal::SegmentLength => 0,
-        Refusal::SegmentType => 0,
-        Refusal::ErrorBit => 0,
-        Refusal::OtherMajor => 0,
-        Refusal::NumberAboveLast => 0,
-        Refusal::Clash => 0,
-        Refusal::TooLong => 0,
-        Refusal::EndsEarly { part: _, at } => at,
-        Refusal::KindDiffers => 0,
-        Refusal::BadDesk => 0,
+impl Refusal {
+    // The offset in the chunk that it tells, 0 where it tells none.
+    pub fn offset(self) -> u16
+        ensures { result ≡ offset_of self }
+    {
+        match self {
+            Refusal::ShortBuffer => 0,
+            Refusal::SegmentLength => 0,
+            Refusal::SegmentType => 0,
+            Refusal::ErrorBit => 0,
+            Refusal::OtherMajor => 0,
+            Refusal::NumberAboveLast => 0,
+            Refusal::Clash => 0,
+            Refusal::TooLong => 0,
+            Refusal::EndsEarly { part: _, at } => at,
+            Refusal::KindDiffers => 0,
+            Refusal::BadDesk => 0,
+        }
     }
 }

@@ -1,11 +1,12 @@
 -- Document 01, "The desk": what it notes of each kind besides the bytes, and which lent buffer serves which.
-use Rattle.std.specs.Prelude.{ℕ, Bool, cond, not, ◌&&◌, ◌||◌, List, eqb, leb, ltb, length}
+use Rattle.std.specs.Prelude.{ℕ, Bool, cond, not, ◌&&◌, ◌||◌, List, eqb, leb, ltb, length, Result, Ok, Err}
+use Rattle.meaning.specs.declared.Refusal.{Refusal}
 use Rattle.meaning.specs.declared.Kind.{Kind}
 use Rattle.meaning.specs.declared.Kind.TheVariants.{This, Next}
 use Rattle.meaning.specs.Sizes.{ts_bytes, longest_listing}
 use Rattle.slots.specs.declared.Slot.{Slot}
 use Rattle.slots.specs.declared.Answer.{Answer}
-use Rattle.slots.specs.declared.Answer.TheVariants.{Missing, NewList, Refused}
+use Rattle.slots.specs.declared.Answer.TheVariants.{Missing, NewList}
 use Rattle.slots.specs.Slots.{empty_slot}
 use Rattle.notes.specs.declared.Notes.{Notes}
 
@@ -34,13 +35,13 @@ other_kind This = Next
 other_kind Next = This
 
 -- the listing's length of a kind, once a segment of that kind was answered
-abbrev pub length_after : Answer → ℕ → ℕ
-length_after (Missing n) before = before
-length_after (NewList k n) before = n
-length_after (Refused f) before = before
+abbrev pub length_after : Result Answer Refusal → ℕ → ℕ
+length_after (Ok (Missing n)) before = before
+length_after (Ok (NewList k n)) before = n
+length_after (Err f) before = before
 
 -- the notes with a kind's slot as it became, and the length of its listing as the answer has it
-abbrev pub notes_with : Kind → Notes → Slot → Answer → Notes
+abbrev pub notes_with : Kind → Notes → Slot → Result Answer Refusal → Notes
 notes_with This m s a =
     record { this = s; next = m.next; shown = length_after a m.shown; coming = m.coming; swapped = m.swapped }
 notes_with Next m s a =

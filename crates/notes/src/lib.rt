@@ -3,10 +3,9 @@
 
 ghost use Rattle.std.specs.Prelude.{◌≡◌, not, ◌||◌, ◌≤◌, take, length as List·length};
 ghost use Rattle.meaning.specs.Sizes.{longest_chunk};
-ghost use Rattle.slots.specs.Slots.{empty_slot};
 ghost use Rattle.notes.specs.Notes.{emptied_notes, length_fits, slot_for, length_for, length_after, notes_with, first_serves, lent_for, too_short};
 
-use meaning::{Kind, LONGEST_CHUNK, LONGEST_LISTING, TS_BYTES};
+use meaning::{Kind, LONGEST_CHUNK, LONGEST_LISTING, Refusal, TS_BYTES};
 use slots::{Answer, Slot};
 
 // The desk's numbers: the slots, the lengths of the listings for this frame and for the next (0 is none), and whether the second buffer
@@ -20,30 +19,22 @@ pub struct Notes {
     pub swapped: bool,
 }
 
-// An empty slot.
-fn empty() -> Slot
-    ensures { result ≡ empty_slot }
-{
-    Slot {
-        last: 0,
-        held: 0,
-        spoiled: false,
-    }
-}
-
 impl Notes {
     // Empty slots and these listings. Internal.
     pub fn emptied(shown: usize, coming: usize, swapped: bool) -> Notes
         ensures { result ≡ emptied_notes shown coming swapped }
     {
-        let this = empty();
-        let next = empty();
+        let empty = Slot {
+            last: 0,
+            held: 0,
+            spoiled: false,
+        };
         Notes {
-            this: this,
-            next: next,
-            shown: shown,
-            coming: coming,
-            swapped: swapped,
+            this: empty,
+            next: empty,
+            shown,
+            coming,
+            swapped,
         }
     }
 
@@ -51,11 +42,9 @@ impl Notes {
     pub fn anew(self) -> Notes
         ensures { result ≡ self }
     {
-        let this = self.this;
-        let next = self.next;
         Notes {
-            this: this,
-            next: next,
+            this: self.this,
+            next: self.next,
             shown: self.shown,
             coming: self.coming,
             swapped: self.swapped,
@@ -81,23 +70,17 @@ impl Notes {
 pub fn length_fits(n: usize) -> bool
     ensures { result ≡ length_fits n }
 {
-    if n == 0 {
-        return true;
-    }
-    if n < TS_BYTES {
-        return false;
-    }
-    n <= LONGEST_LISTING
+    n == 0 || TS_BYTES <= n && n <= LONGEST_LISTING
 }
 
 // The length of a kind's listing, once a segment of that kind was answered.
-fn length_after(answer: Answer, before: usize) -> usize
+fn length_after(answer: Result<Answer, Refusal>, before: usize) -> usize
     ensures { result ≡ length_after answer before }
 {
     match answer {
-        Answer::NewList { kind: _, length } => length,
-        Answer::Missing(_) => before,
-        Answer::Refused(_) => before,
+        Ok(Answer::NewList { kind: _, length }) => length,
+        Ok(Answer::Missing(_)) => before,
+        Err(_) => before,
     }
 }
 
@@ -105,11 +88,9 @@ fn length_after(answer: Answer, before: usize) -> usize
 pub fn own(kind: Kind, notes: Notes) -> Slot
     ensures { result ≡ slot_for kind notes }
 {
-    let mine = notes.this;
-    let other = notes.next;
     match kind {
-        Kind::This => mine,
-        Kind::Next => other,
+        Kind::This => notes.this,
+        Kind::Next => notes.next,
     }
 }
 
@@ -134,25 +115,19 @@ pub fn start_of(kind: Kind) -> usize
 }
 
 // The desk's numbers with a kind's slot as it became, and the length of its listing as the answer has it. Internal.
-pub fn with_slot(notes: Notes, kind: Kind, slot: Slot, answer: Answer) -> Notes
+pub fn with_slot(notes: Notes, kind: Kind, slot: Slot, answer: Result<Answer, Refusal>) -> Notes
     ensures { result ≡ notes_with kind notes slot answer }
 {
-    let mine = notes.this;
-    let other = notes.next;
     match kind {
         Kind::This => Notes {
             this: slot,
-            next: other,
             shown: length_after(answer, notes.shown),
-            coming: notes.coming,
-            swapped: notes.swapped,
+            ..notes
         },
         Kind::Next => Notes {
-            this: mine,
             next: slot,
-            shown: notes.shown,
             coming: length_after(answer, notes.coming),
-            swapped: notes.swapped,
+            ..notes
         },
     }
 }
@@ -171,13 +146,7 @@ pub fn first_serves(kind: Kind, swapped: bool) -> bool
 pub fn roomy(first: &[u8], second: &[u8]) -> bool
     ensures { result ≡ not (too_short first.now || too_short second.now) }
 {
-    if first.len() < LONGEST_LISTING {
-        return false;
-    }
-    if second.len() < LONGEST_LISTING {
-        return false;
-    }
-    true
+    LONGEST_LISTING <= first.len() && LONGEST_LISTING <= second.len()
 }
 
 // The first bytes of the buffer that serves this frame or the next. Internal.

@@ -2,3 +2,4 @@ pub mod Laws
 pub mod Stores
 pub mod Sets
 pub mod Tables
+pub mod Starts

@@ -9,21 +9,21 @@ ghost use Rattle.octets.specs.Word.{word, high, low, word_bytes};
 pub fn word_of(first: u8, second: u8) -> u16
     ensures { result ≡ word first second }
 {
-    (first as u16) * 256 + (second as u16)
+    u16::from_be_bytes([first, second])
 }
 
 // The first of its two bytes.
 pub fn high_of(w: u16) -> u8
     ensures { result ≡ high w }
 {
-    (w / 256) as u8
+    w.to_be_bytes()[0]
 }
 
 // The second of its two bytes.
 pub fn low_of(w: u16) -> u8
     ensures { result ≡ low w }
 {
-    (w % 256) as u8
+    w.to_be_bytes()[1]
 }
 
 // Puts both bytes at a place.
@@ -31,8 +31,7 @@ pub fn put_word(w: u16, out: &mut [u8], at: usize)
     requires { at + 2 ≤ length out.old }
     ensures { out.new ≡ sets out.old at (word_bytes w) }
 {
-    out[at] = high_of(w);
-    out[at + 1] = low_of(w);
+    put_mark(w.to_be_bytes(), out, at);
 }
 
 // Puts a record's mark at a place.
@@ -40,6 +39,5 @@ pub fn put_mark(mark: [u8; 2], out: &mut [u8], at: usize)
     requires { at + 2 ≤ length out.old }
     ensures { out.new ≡ sets out.old at mark }
 {
-    out[at] = mark[0];
-    out[at + 1] = mark[1];
+    out[at..at + 2].copy_from_slice(&mark);
 }

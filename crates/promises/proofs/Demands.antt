@@ -5,30 +5,29 @@ use mathlib.Core.Bool.{true}
 use mathlib.Core.List.{List, [], ◌∷◌, ◌++◌, map}
 use Prim.Native.Nat.{ℕ, ◌≤◌, ◌<◌}
 use lib.ListN.{length}
+use Rattle.std.proofs.Common.{Result, Ok, Err}
 use Rattle.octets.specs.Bits.{Bytes}
 use Rattle.octets.specs.Each.{Each}
 use Rattle.meaning.specs.declared.Kind.{Kind}
 use Rattle.meaning.specs.declared.Refusal.{Refusal}
 use Rattle.meaning.specs.declared.Refusal.TheVariants.{OtherMajor}
-use Rattle.meaning.specs.declared.Checked.TheVariants.{Fault}
-use Rattle.meaning.specs.declared.Read.{Read}
-use Rattle.meaning.specs.declared.Read.TheVariants.{Listed, Refused}
+use Rattle.meaning.specs.declared.Listed.{Listed}
 use Rattle.meaning.specs.Sizes.{longest_listing}
 use Rattle.meaning.specs.Numbers.{number_of, read_fault}
 use Rattle.meaning.specs.Lists.{FicList}
 use Rattle.meaning.specs.Layout.{wire, Carries}
 use Rattle.meaning.specs.Said.{list_said}
 use Rattle.meaning.specs.Plain.{plain, Oldest, VersionsZero}
-use Rattle.meaning.specs.Reading.{read_checks, read_answer, ReadSays}
+use Rattle.meaning.specs.Reading.{read_checks, read_answer, ReadSays, listed}
 use Rattle.meaning.proofs.Answers as reading
 use Rattle.segments.specs.Segment.{segment_kind}
 use Rattle.segments.specs.Cut.{segment_count, Choice, Suits, piece_of}
+use Rattle.std.proofs.Common.{Result, Ok, Err}
 use Rattle.writer.specs.declared.Unwritten.{Unwritten}
-use Rattle.writer.specs.declared.Written.{Written}
-use Rattle.writer.specs.Writing.{Fine as WriteFine, Fault as WriteFault, shortest_output, written_fault, plain_segments, write_checks, write_answer, write_output, WriteSays}
+use Rattle.writer.specs.Writing.{shortest_output, written_fault, plain_segments, write_checks, write_answer, write_output, WriteSays}
 use Rattle.writer.proofs.Answers as writing
 use Rattle.slots.specs.declared.Answer.{Answer}
-use Rattle.slots.specs.declared.Answer.TheVariants.{Missing, NewList, Refused as Unanswered}
+use Rattle.slots.specs.declared.Answer.TheVariants.{Missing, NewList}
 use Rattle.slots.specs.Gathering.{answer_fault, answer_values}
 use Rattle.desk.specs.declared.Desk.{Desk}
 use Rattle.notes.specs.Notes.{other_kind}
@@ -58,18 +57,18 @@ module _ (xs before : List ℕ) where
   read_exactly = reading.answer_exactly xs before
 
   -- a refusal is one of the reader's numbers, with its offset; every other value is 0, and nothing is written
-  pub read_refused : {f : Refusal} → read_checks xs before ≡ Fault f → ReadRefused xs before f
+  pub read_refused : {f : Refusal} → read_checks xs before ≡ Err f → ReadRefused xs before f
   read_refused = fields.read_refused xs before
 
 module _ (xs : List ℕ) (k : Kind) (before : List ℕ) where
   pub write_exactly : written_fault (write_answer xs k before) ≡ write_checks xs before
   write_exactly = writing.answer_exactly xs k before
 
-  pub write_refused : {f : Unwritten} → write_checks xs before ≡ WriteFault f → WriteRefused xs k before f
+  pub write_refused : {f : Unwritten} → write_checks xs before ≡ Err f → WriteRefused xs k before f
   write_refused = fields.write_refused xs k before
 
   -- and a listing that passes has number 0 and its segments, at the start of the output; bytes past them stay
-  pub write-accepted : write_checks xs before ≡ WriteFine → WriteAnswered xs k before (plain_segments k (list_said xs))
+  pub write-accepted : write_checks xs before ≡ Ok tt → WriteAnswered xs k before (plain_segments k (list_said xs))
   write-accepted = fields.write-accepted xs k before
 
 module _ (d : Desk) (xs first second : List ℕ) where
@@ -79,7 +78,7 @@ module _ (d : Desk) (xs first second : List ℕ) where
   pub segment_exactly : answer_fault r.answer ≡ segment_fault d xs first second
   segment_exactly = refusals.answer_exactly d xs first second
 
-  module _ (f : Refusal) (is : r.answer ≡ Unanswered f) where
+  module _ (f : Refusal) (is : r.answer ≡ Err f) where
     pub segment_refused : SegmentRefused f r.answer
     segment_refused = record { number = refusals.refusal_number d xs first second f is; values = ap answer_values is }
 
@@ -117,7 +116,7 @@ module _ {xs : List ℕ} {k : Kind} {m : ℕ} {l : FicList} where
   one_list = reading.carries-once
 
 module _ {xs before left : List ℕ} {k : Kind} {m n : ℕ} where
-  pub only_chunks_listed : Bytes xs → ReadSays xs before (Listed k m n) left → ChunkListed xs before k m n left
+  pub only_chunks_listed : Bytes xs → ReadSays xs before (Ok (listed k m n)) left → ChunkListed xs before k m n left
   only_chunks_listed = fields.only_chunks
 
 -- and of a desk, whatever it holds and whatever came before: an answer that is a list is that of the chunk that its slot then holds; any other
@@ -127,10 +126,10 @@ module _ (d : Desk) (xs first second : List ℕ) where
   s = segment_after d xs first second
 
   module _ (b : Bytes d.bytes) (v : Bytes xs) (k : Kind) (n : ℕ) where
-    pub segment_listed : s.answer ≡ NewList k n → SegmentListed d xs first second k n s
+    pub segment_listed : s.answer ≡ Ok (NewList k n) → SegmentListed d xs first second k n s
     segment_listed is = record { values = ap answer_values is; lists = accepted.listed_lists d xs first second b v k n is }
 
-  pub segment_missing : (n : ℕ) → s.answer ≡ Missing n → SegmentMissing d xs first second n s
+  pub segment_missing : (n : ℕ) → s.answer ≡ Ok (Missing n) → SegmentMissing d xs first second n s
   segment_missing n is = record { values = ap answer_values is; waits = accepted.missing_waits d xs first second n is }
 
 -- a gathering begins on a fresh desk, after new gathering and after new frame, whatever the desk before
@@ -164,8 +163,8 @@ module _ {ys : List ℕ} {k : Kind} {m : ℕ} {l : FicList} (h : Carries ys k m 
 
 -- the answers that it says, read out: of n pieces those in `earlier` come, then the last missing one, i, then those in `later`
 module _ (n : ℕ) (k : Kind) (size : ℕ) {earlier : List ℕ} {i : ℕ} {later : List ℕ} (c : LastMissing n earlier i later) where
-  abbrev at_last : List Answer
-  at_last = piece_counts n [] earlier ++ (NewList k size ∷ map (λ j. Missing 0) later)
+  abbrev at_last : List (Result Answer Refusal)
+  at_last = piece_counts n [] earlier ++ ((Ok (NewList k size)) ∷ map (λ j. Ok (Missing 0)) later)
 
   pub list_at_the_last_missing : piece_answers n k size [] (earlier ++ i ∷ later) ≡ at_last
   list_at_the_last_missing = let p = c.inside in counts.answers-read n k size earlier i later p.0 p.1 p.2 c.new c.all
@@ -176,11 +175,11 @@ first_is_not_enough = keeps.first_not_enough
 
 -- another major: 5 from the reader, and 5 for every piece on any well formed desk, which stays as it was, as do both buffers
 module _ (ys : List ℕ) (o : OtherMajorChunk ys) where
-  pub other-major-read : (before : List ℕ) → longest_listing ≤ length before → ReadSays ys before (Refused OtherMajor) before
+  pub other-major-read : (before : List ℕ) → longest_listing ≤ length before → ReadSays ys before (Err OtherMajor) before
   other-major-read before long = reading.says_major ys before long o.two o.room o.major
 
   module _ (c : Choice) (bytes : Bytes ys) (suits : Suits ys c) (s : State) (y : Ready s) where
-    pub other-major-piece : (i : ℕ) → i < segment_count (length ys) → answer_to s (piece_of ys c i) ≡ after (Unanswered OtherMajor) s.desk s.first s.second
+    pub other-major-piece : (i : ℕ) → i < segment_count (length ys) → answer_to s (piece_of ys c i) ≡ after (Err OtherMajor) s.desk s.first s.second
     other-major-piece i inside = majors.piece_refused ys c bytes suits o.room o.major s.desk y.0 i inside s.first s.second y.1 y.2
 
     abbrev given : List ℕ → Ran
@@ -191,14 +190,14 @@ module _ (ys : List ℕ) (o : OtherMajorChunk ys) where
 
 -- ---- two results can't both meet a call's statement. Those that are not here are an equation of the result with a definition (src/lib.rt)
 
-module _ {a b : Read} {p q : List ℕ} where
+module _ {a b : Result Listed Refusal} {p q : List ℕ} where
   pub one_read : {xs before : List ℕ} → ReadSays xs before a p → ReadSays xs before b q → (a ≡ b) × (p ≡ q)
   one_read = reading.says_once
 
-module _ (xs : List ℕ) (k : Kind) (before : List ℕ) {a b : Written} {p q : List ℕ} where
+module _ (xs : List ℕ) (k : Kind) (before : List ℕ) {a b : Result ℕ Unwritten} {p q : List ℕ} where
   pub one_written : WriteSays xs k before a p → WriteSays xs k before b q → (a ≡ b) × (p ≡ q)
   one_written = writing.says_once xs k before
 
-module _ {a b : Answer} {d e : Desk} {p q s t : List ℕ} where
+module _ {a b : Result Answer Refusal} {d e : Desk} {p q s t : List ℕ} where
   pub one_taken : {r : After} → after a d p s ≡ r → after b e q t ≡ r → (a ≡ b) × (d ≡ e) × (p ≡ q) × (s ≡ t)
   one_taken x y = let z = x ∙ sym y in (ap (λ r. r.answer) z, ap (λ r. r.desk) z, ap (λ r. r.first) z, ap (λ r. r.second) z)

@@ -5,6 +5,7 @@ use mathlib.Core.List.{List, ◌++◌, map}
 use mathlib.Core.Logic.{◌⊎◌}
 use Prim.Native.Nat.{ℕ, zero, suc, ◌-◌, ◌≤◌, ◌<◌}
 use lib.ListN.{length, drop}
+use Rattle.std.proofs.Common.{Result, Ok, Err}
 use Rattle.octets.specs.Bits.{Bytes, Held}
 use Rattle.octets.specs.Checks.{check}
 use Rattle.octets.specs.Each.{Each}
@@ -12,9 +13,6 @@ use Rattle.octets.proofs.Laws.{either}
 use Rattle.text.specs.Text.{text}
 use Rattle.meaning.specs.declared.Kind.{Kind}
 use Rattle.meaning.specs.declared.Refusal.{Refusal}
-use Rattle.meaning.specs.declared.Checked.{Checked}
-use Rattle.meaning.specs.declared.Checked.TheVariants.{Fault}
-use Rattle.meaning.specs.declared.Read.TheVariants.{Listed}
 use Rattle.meaning.specs.Sizes.{longest_listing}
 use Rattle.meaning.specs.Numbers.{checked_number}
 use Rattle.meaning.specs.Lists.{FicList, AllKnown}
@@ -22,16 +20,16 @@ use Rattle.meaning.specs.Layout.{Carries}
 use Rattle.meaning.specs.Listing.{listing}
 use Rattle.meaning.specs.Said.{listing_fits, list_said}
 use Rattle.meaning.specs.Plain.{Fits, Oldest, VersionsZero}
-use Rattle.meaning.specs.Reading.{ensembles_checks, checks, read_checks, read_answer, ReadSays}
+use Rattle.meaning.specs.Reading.{ensembles_checks, checks, read_checks, read_answer, ReadSays, listed}
 use Rattle.meaning.proofs.Answers as reading
 use Rattle.meaning.proofs.Said.{other_unfit, fitting_known}
 use Rattle.segments.specs.Segment.{Head, head_fields, segment}
 use Rattle.segments.specs.Cut.{segment_count, Choice, Suits, piece_of}
 use Rattle.segments.proofs.Heads.{head_read}
+use Rattle.std.proofs.Common.{Result, Ok, Err}
 use Rattle.writer.specs.declared.Unwritten.{Unwritten}
 use Rattle.writer.specs.declared.Unwritten.TheVariants.{BadListing}
-use Rattle.writer.specs.declared.Written.TheVariants.{Refused as NotWritten}
-use Rattle.writer.specs.Writing.{Fine as WriteFine, Fault as WriteFault, shortest_output, plain_segments, write_checks, write_answer, write_output}
+use Rattle.writer.specs.Writing.{shortest_output, plain_segments, write_checks, write_answer, write_output}
 use Rattle.writer.proofs.Answers as writing
 use Rattle.typed.specs.Typed.{log_of}
 use Rattle.lukasembo.specs.Packed.{packed_read, packed_written}
@@ -57,31 +55,31 @@ use Rattle.promises.specs.Says.{ReadRefused, ReadList, ChunkListed, WriteRefused
 
 -- ---- the reader and the writer
 
-pub read_refused : (xs before : List ℕ) {f : Refusal} → read_checks xs before ≡ Fault f → ReadRefused xs before f
+pub read_refused : (xs before : List ℕ) {f : Refusal} → read_checks xs before ≡ Err f → ReadRefused xs before f
 read_refused xs before e = let h = reading.refusal_values xs before e in record { number = h.0; values = h.1; buffer = h.2 }
 
 pub chunk_read : {xs : List ℕ} {k : Kind} {m : ℕ} {l : FicList} → Carries xs k m l → (before : List ℕ) → longest_listing ≤ length before → ReadList xs before k m l
 chunk_read c before long = let h = reading.carried-values c before long in record { values = h.0; buffer = h.1 }
 
-pub only_chunks : {xs before left : List ℕ} {k : Kind} {m n : ℕ} → Bytes xs → ReadSays xs before (Listed k m n) left → ChunkListed xs before k m n left
+pub only_chunks : {xs before left : List ℕ} {k : Kind} {m n : ℕ} → Bytes xs → ReadSays xs before (Ok (listed k m n)) left → ChunkListed xs before k m n left
 only_chunks b says = let h = reading.listed_carried b says in record { list = h.0; carried = h.1; size = h.2; buffer = h.3 }
 
 module _ (xs : List ℕ) (k : Kind) (before : List ℕ) where
-  pub write_refused : {f : Unwritten} → write_checks xs before ≡ WriteFault f → WriteRefused xs k before f
+  pub write_refused : {f : Unwritten} → write_checks xs before ≡ Err f → WriteRefused xs k before f
   write_refused e = let h = writing.refusal_values xs k before e in record { number = h.0; values = h.1; output = h.2 }
 
-  pub write-accepted : write_checks xs before ≡ WriteFine → WriteAnswered xs k before (plain_segments k (list_said xs))
+  pub write-accepted : write_checks xs before ≡ Ok tt → WriteAnswered xs k before (plain_segments k (list_said xs))
   write-accepted e = let h = writing.written_values_lem xs k before e in record { values = h.0; output = h.1 }
 
 -- no listing with an unknown ensemble is written
-pub unknown_refused : (l : FicList) → Fits l → (AllKnown l → ⊥) → (k : Kind) (output : List ℕ) → shortest_output ≤ length output → write_answer (listing l) k output ≡ NotWritten BadListing
+pub unknown_refused : (l : FicList) → Fits l → (AllKnown l → ⊥) → (k : Kind) (output : List ℕ) → shortest_output ≤ length output → write_answer (listing l) k output ≡ Err BadListing
 unknown_refused l fits unknown k output space =
     either (listing_fits (listing l))
     (λ formed. absurd (unknown (fitting_known l fits formed)))
     (λ bad. writing.answer_bad (listing l) k output space bad)
 
 -- nor one with a service of another ensemble
-pub other_refused : (xs : List ℕ) → OfAnother xs → (k : Kind) (output : List ℕ) → shortest_output ≤ length output → write_answer xs k output ≡ NotWritten BadListing
+pub other_refused : (xs : List ℕ) → OfAnother xs → (k : Kind) (output : List ℕ) → shortest_output ≤ length output → write_answer xs k output ≡ Err BadListing
 other_refused xs o k output space =
     writing.answer_bad xs k output space
     (ap listing_fits o.said ∙ other_unfit o.stream o.ensembles o.before o.further o.own o.services o.more o.other o.differs o.service o.behind)
@@ -136,7 +134,7 @@ module _ (ys : List ℕ) (o : OtherMajorChunk ys) (c : Choice) (bytes : Bytes ys
 
 -- ---- the numbers of a chunk are what they were
 
-number-check : (t : Bool) (v w : Checked) → checked_number (check t v w) ≡ check t (checked_number v) (checked_number w)
+number-check : (t : Bool) (v w : Result Unit Refusal) → checked_number (check t v w) ≡ check t (checked_number v) (checked_number w)
 number-check true v w = refl
 number-check false v w = refl
 

@@ -7,6 +7,7 @@ use Prim.Native.Nat.{ℕ, ◌+◌, ◌-◌, ◌*◌, ◌^◌, ◌≤◌, ◌<◌
 use lib.Dec.{T}
 use lib.ListN.{length, drop}
 use lib.Count.{ones}
+use Rattle.std.proofs.Common.{Ok, Err}
 use Rattle.octets.specs.Bits.{Bytes, Held}
 use Rattle.octets.specs.Each.{Each}
 use Rattle.octets.specs.Checks.{among}
@@ -16,13 +17,11 @@ use Rattle.meaning.specs.declared.Part.{Part}
 use Rattle.meaning.specs.declared.Part.TheVariants.{SingleService}
 use Rattle.meaning.specs.declared.Refusal.{Refusal}
 use Rattle.meaning.specs.declared.Refusal.TheVariants.{Clash, EndsEarly}
-use Rattle.meaning.specs.declared.Checked.TheVariants.{Fine}
 use Rattle.records.specs.Records.{mark_bytes}
 use Rattle.meaning.specs.Sizes.{longest_chunk, longest_listing, ts_bytes, en_bytes, eu_bytes, sv_bytes}
 use Rattle.meaning.specs.Lists.{Ensemble, FicList, services_of, known_count, unknown_count, AllKnown}
 use Rattle.meaning.specs.Layout.{EnsembleRow, ensemble_of, Chunk, Formed, Carries, wire}
 use Rattle.meaning.specs.Listing.{listing}
-use Rattle.meaning.specs.declared.Read.TheVariants.{Refused as NotRead}
 use Rattle.meaning.specs.Ends.{thing_bytes, things, EndsIn}
 use Rattle.meaning.specs.Numbers.{number_of, offset_of, checked_number}
 use Rattle.meaning.specs.Reading.{checks, list_in, Accepts, read_answer, read_buffer}
@@ -43,16 +42,15 @@ use Rattle.segments.specs.Cut.{segment_count}
 use Rattle.segments.proofs.Samples.{given, samples, samples_hold}
 use Rattle.segments.proofs.Checks.{check-numbers}
 use Rattle.segments.proofs.Cut.{segments_hold, segments_fewest}
+use Rattle.std.proofs.Common.{Result, Ok, Err}
 use Rattle.writer.specs.declared.Unwritten.{Unwritten}
 use Rattle.writer.specs.declared.Unwritten.TheVariants.{BadListing}
-use Rattle.writer.specs.declared.Written.{Written}
-use Rattle.writer.specs.declared.Written.TheVariants.{Segments, Refused as NotWritten}
 use Rattle.writer.specs.Writing.{shortest_output, unwritten_number, plain_segments, write_answer}
-use Rattle.typed.specs.declared.Reply.{Reply}
+use Rattle.typed.specs.declared.Unanswered.{Unanswered}
 use Rattle.typed.specs.Typed.{log_of, longest_log, kind_typed, listing_typed, answer_for, ReplyValues, reply_values, reply_to, Answerable, ReplySays}
 use Rattle.typed.proofs.Replies.{values_written, values_refused, values_unasked, log-short}
 use Rattle.slots.specs.declared.Slot.{Slot}
-use Rattle.slots.specs.declared.Answer.TheVariants.{Missing, Refused}
+use Rattle.slots.specs.declared.Answer.TheVariants.{Missing}
 use Rattle.slots.specs.Gathering.{chunk_in}
 use Rattle.octets.specs.Sets.{holds}
 use Rattle.slots.specs.Slots.{spoiled_slot, missing_in}
@@ -124,11 +122,11 @@ chunk_is_things = wire_things
 
 module _ {xs : List ℕ} {p : Part} {at : ℕ} where
   -- the chunk is the beginning of one that the tables lay out, which has at the offset a thing of this part; all before it is there, and it is not
-  pub nine_is_where_it_ends : Bytes xs → (before : List ℕ) → read_answer xs before ≡ NotRead (EndsEarly p at) → EndsIn xs p at
+  pub nine_is_where_it_ends : Bytes xs → (before : List ℕ) → read_answer xs before ≡ Err (EndsEarly p at) → EndsIn xs p at
   nine_is_where_it_ends = answer_ends
 
   -- every such chunk is told so; and there is one such thing only
-  pub where_it_ends_is_nine : EndsIn xs p at → length xs ≤ longest_chunk → (before : List ℕ) → longest_listing ≤ length before → read_answer xs before ≡ NotRead (EndsEarly p at)
+  pub where_it_ends_is_nine : EndsIn xs p at → length xs ≤ longest_chunk → (before : List ℕ) → longest_listing ≤ length before → read_answer xs before ≡ Err (EndsEarly p at)
   where_it_ends_is_nine = ends_answer
 
   pub one_end : {q : Part} {i : ℕ} → EndsIn xs p at → EndsIn xs q i → length xs ≤ longest_chunk → (p ≡ q) × (at ≡ i)
@@ -136,14 +134,14 @@ module _ {xs : List ℕ} {p : Part} {at : ℕ} where
 
 -- of a segment: the chunk that it completes ends so
 module _ (d : Desk) (xs first second : List ℕ) where
-  pub segment_nine : Bytes d.bytes → Bytes xs → (p : Part) (at : ℕ) → (segment_after d xs first second).answer ≡ Refused (EndsEarly p at) → EndsIn (chunk_in (slot_holding d xs)) p at
+  pub segment_nine : Bytes d.bytes → Bytes xs → (p : Part) (at : ℕ) → (segment_after d xs first second).answer ≡ Err (EndsEarly p at) → EndsIn (chunk_in (slot_holding d xs)) p at
   segment_nine = refusal_ends d xs first second
 
   -- the offset is at most the chunk's length, here and of the reader; no other number tells one
-  pub segment-offset : (f : Refusal) → (segment_after d xs first second).answer ≡ Refused f → offset_of f ≤ length (chunk_in (slot_holding d xs))
+  pub segment-offset : (f : Refusal) → (segment_after d xs first second).answer ≡ Err f → offset_of f ≤ length (chunk_in (slot_holding d xs))
   segment-offset = refusal_within d xs first second
 
-pub reader-offset : (xs before : List ℕ) (f : Refusal) → read_answer xs before ≡ NotRead f → offset_of f ≤ length xs
+pub reader-offset : (xs before : List ℕ) (f : Refusal) → read_answer xs before ≡ Err f → offset_of f ≤ length xs
 reader-offset = answer-within
 
 pub only_nine : (f : Refusal) → (number_of f ≡ 9 → ⊥) → offset_of f ≡ 0
@@ -167,10 +165,10 @@ module _ (l : FicList) where
   listing-length = length-listing l
 
 -- 1,475 bytes are enough for every accepted chunk, and are reached
-pub longest_is_enough : (xs : List ℕ) → checks xs ≡ Fine → length (listing (list_in xs)) ≤ longest_listing
+pub longest_is_enough : (xs : List ℕ) → checks xs ≡ Ok tt → length (listing (list_in xs)) ≤ longest_listing
 longest_is_enough = listing-fits
 
-pub longest_is_reached : (xs : List ℕ) × (checks xs ≡ Fine) × (length (listing (list_in xs)) ≡ longest_listing)
+pub longest_is_reached : (xs : List ℕ) × (checks xs ≡ Ok tt) × (length (listing (list_in xs)) ≡ longest_listing)
 longest_is_reached = longest_reached
 
 -- ---- segments: what is read of one are its fields; its reserved bit and its wake_up_indicator never matter
@@ -215,11 +213,11 @@ module _ (d : Desk) (xs first second : List ℕ) where
   abbrev slot : Slot
   slot = (slot_before d xs).slot
 
-  module _ (called : call_checks d xs first second ≡ Fine) where
-    pub repeat_changes_nothing : clashes d xs ≡ false → holds slot.held (number_in xs) ≡ true → r ≡ after (Missing (missing_in slot)) d first second
+  module _ (called : call_checks d xs first second ≡ Ok tt) where
+    pub repeat_changes_nothing : clashes d xs ≡ false → holds slot.held (number_in xs) ≡ true → r ≡ after (Ok (Missing (missing_in slot))) d first second
     repeat_changes_nothing = repeat-unchanged d xs first second called
 
-    pub spoiled_stays : slot.spoiled ≡ true → (r.answer ≡ Refused Clash) × (slot_for (segment_kind xs) r.desk.notes ≡ spoiled_slot)
+    pub spoiled_stays : slot.spoiled ≡ true → (r.answer ≡ Err Clash) × (slot_for (segment_kind xs) r.desk.notes ≡ spoiled_slot)
     spoiled_stays = spoiled_refused d xs first second called
 
   -- ---- the desk: kinds apart
@@ -282,12 +280,12 @@ fitting_well_formed l f k = let formed = listing_fitting l f k in (bytes-listing
 
 -- one with an unknown ensemble is refused with 13
 module _ (l : FicList) (fits : Fits l) (unknown : AllKnown l → ⊥) where
-  pub unknown_not_written : (k : Kind) (output : List ℕ) → shortest_output ≤ length output → write_answer (listing l) k output ≡ NotWritten BadListing
+  pub unknown_not_written : (k : Kind) (output : List ℕ) → shortest_output ≤ length output → write_answer (listing l) k output ≡ Err BadListing
   unknown_not_written = fields.unknown_refused l fits unknown
 
 -- and so is one with a service of another ensemble than that of the `EN` above it
 module _ (xs : List ℕ) (o : OfAnother xs) where
-  pub other_not_written : (k : Kind) (output : List ℕ) → shortest_output ≤ length output → write_answer xs k output ≡ NotWritten BadListing
+  pub other_not_written : (k : Kind) (output : List ℕ) → shortest_output ≤ length output → write_answer xs k output ≡ Err BadListing
   other_not_written = fields.other_refused xs o
 
 -- and any listing, also one with unknown ensembles, is of one list only
@@ -301,7 +299,7 @@ chunk-length = length-plain
 pub fewest : (n : ℕ) → (n ≤ payload_bytes * segment_count n) × ((m : ℕ) → n ≤ payload_bytes * m → segment_count n ≤ m)
 fewest n = (segments_hold n, segments_fewest n)
 
-pub written : (xs : List ℕ) (k : Kind) (output : List ℕ) → Sendable xs → shortest_output ≤ length output → write_answer xs k output ≡ Segments (count_for xs)
+pub written : (xs : List ℕ) (k : Kind) (output : List ℕ) → Sendable xs → shortest_output ≤ length output → write_answer xs k output ≡ Ok (count_for xs)
 written xs k output w space = written_so_many xs k output w.bytes w.fits w.room space
 
 -- through the two programs: the log of the writer's segments prints as the answers and the listing, and the digits that the log prints say the
@@ -314,7 +312,7 @@ pub digits_typed_lem : (xs : List ℕ) → Bytes xs → (hex_fits (length xs) (h
 digits_typed_lem = hex_typed
 
 -- what is typed to `write`: two results can't both meet what is said of the answer; a log has room in 624 bytes
-module _ {a b : Reply} {p q : List ℕ} where
+module _ {a b : Result ℕ Unanswered} {p q : List ℕ} where
   pub one_reply : {typed before : List ℕ} → ReplySays typed before a p → ReplySays typed before b q → (a ≡ b) × (p ≡ q)
   one_reply s t = (s.answers ∙ sym t.answers, s.leaves ∙ sym t.leaves)
 
@@ -324,14 +322,14 @@ module _ (typed log : List ℕ) where
   abbrev values : ReplyValues
   values = reply_values (reply_to typed log)
 
-  abbrev told : Written
+  abbrev told : Result ℕ Unwritten
   told = answer_for (kind_typed typed) (listing_typed typed)
 
   module _ (asked : Answerable typed log) where
-    pub reply_written : {n : ℕ} → told ≡ Segments n → values ≡ record { log = true; number = 0; length = (mark_bytes + segment_bytes) * n }
+    pub reply_written : {n : ℕ} → told ≡ Ok n → values ≡ record { log = true; number = 0; length = (mark_bytes + segment_bytes) * n }
     reply_written = values_written typed log asked
 
-    pub reply_refused : {f : Unwritten} → told ≡ NotWritten f → values ≡ record { log = false; number = unwritten_number f; length = 0 }
+    pub reply_refused : {f : Unwritten} → told ≡ Err f → values ≡ record { log = false; number = unwritten_number f; length = 0 }
     reply_refused = values_refused typed log asked
 
   pub reply_without : (Answerable typed log → ⊥) → values ≡ record { log = false; number = 0; length = 0 }

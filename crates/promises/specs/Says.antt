@@ -1,5 +1,5 @@
 -- The conditions and conclusions of the two pages that are more than a line, field by field.
-use Rattle.std.specs.Prelude.{ℕ, ◌+◌, ◌*◌, ◌/◌, ◌%◌, ◌≤◌, ◌<◌, ◌≡◌, true, false, T, length, take, drop}
+use Rattle.std.specs.Prelude.{ℕ, ◌+◌, ◌*◌, ◌/◌, ◌%◌, ◌≤◌, ◌<◌, ◌≡◌, true, false, T, length, take, drop, Result, Ok, Err}
 use mathlib.Core.List.{List, [], ◌∷◌, ◌++◌, map, flat_map}
 use Rattle.octets.specs.Bits.{Bytes}
 use Rattle.octets.specs.Checks.{among}
@@ -8,7 +8,6 @@ use Rattle.octets.specs.Word.{word_bytes}
 use Rattle.meaning.specs.declared.Kind.{Kind}
 use Rattle.meaning.specs.declared.Refusal.{Refusal}
 use Rattle.meaning.specs.declared.Refusal.TheVariants.{OtherMajor}
-use Rattle.meaning.specs.declared.Read.TheVariants.{Listed}
 use Rattle.meaning.specs.Sizes.{longest_chunk, longest_listing}
 use Rattle.meaning.specs.Numbers.{number_of, offset_of, read_values}
 use Rattle.meaning.specs.Lists.{Service, Known, known, FicList, kind_of, current_of}
@@ -16,14 +15,12 @@ use Rattle.meaning.specs.Layout.{Carries}
 use Rattle.meaning.specs.Listing.{mark_ts, mark_en, flags, sv_record, ensemble_listing, listing}
 use Rattle.meaning.specs.Said.{listing_fits, list_said}
 use Rattle.meaning.specs.Plain.{plain_length}
-use Rattle.meaning.specs.Reading.{major_in, read_answer, read_buffer, ReadSays}
+use Rattle.meaning.specs.Reading.{major_in, read_answer, read_buffer, ReadSays, listed}
 use Rattle.segments.specs.Segment.{segment_bytes, segment_header_bytes, Head, sort_in, segment_major, segment_kind, error_in, number_in, last_in, payload_in}
 use Rattle.segments.specs.Cut.{segment_count, up_from, joined}
 use Rattle.writer.specs.declared.Unwritten.{Unwritten}
-use Rattle.writer.specs.declared.Written.TheVariants.{Segments}
 use Rattle.writer.specs.Writing.{unwritten_number, written_values, write_answer, write_output}
 use Rattle.slots.specs.declared.Answer.{Answer}
-use Rattle.slots.specs.declared.Answer.TheVariants.{Refused}
 use Rattle.slots.specs.Gathering.{answer_values}
 use Rattle.desk.specs.declared.Desk.{Desk}
 use Rattle.notes.specs.Notes.{slot_for}
@@ -95,7 +92,7 @@ count_for xs = segment_count (plain_length (list_said xs))
 -- ---- the desk
 
 -- it refuses a segment with f
-pub record SegmentRefused (f : Refusal) (a : Answer) : Type 0 where
+pub record SegmentRefused (f : Refusal) (a : Result Answer Refusal) : Type 0 where
   pub number : T (among (1 ∷ 2 ∷ 3 ∷ 4 ∷ 5 ∷ 6 ∷ 7 ∷ 9 ∷ 10 ∷ 12 ∷ []) (number_of f))
   pub values : answer_values a ≡ record { number = number_of f; at = offset_of f; missing = 0; kind = 0; length = 0 }
 
@@ -170,11 +167,11 @@ ReadBack xs k output s =
 -- their payloads, given whole to the reader, say it too
 abbrev pub ReadWhole : List ℕ → Kind → List ℕ → List ℕ → Type 0
 ReadWhole xs k output before =
-    ReadSays (payloads_of (first_segments (count_for xs) output)) before (Listed k 0 (length xs)) (xs ++ drop (length xs) before)
+    ReadSays (payloads_of (first_segments (count_for xs) output)) before (Ok (listed k 0 (length xs))) (xs ++ drop (length xs) before)
 
 -- the listing of the chunk ys, written, gives back the bytes of ys before its stuffing
 pub record WrittenBack (ys : List ℕ) (k : Kind) (l : FicList) (stuffing buffer output : List ℕ) : Type 0 where
-  pub answer : write_answer (listed_by ys buffer) k output ≡ Segments (segment_count (plain_length l))
+  pub answer : write_answer (listed_by ys buffer) k output ≡ Ok (segment_count (plain_length l))
   pub bytes :
       take (plain_length l) (payloads_of (first_segments (segment_count (plain_length l)) (write_output (listed_by ys buffer) k output)))
       ≡ take (plain_length l) ys
@@ -194,7 +191,7 @@ pub record OtherMajorChunk (ys : List ℕ) : Type 0 where
 
 -- every piece with these numbers was refused with 5, and nothing has changed
 pub record AllRefused (numbers : List ℕ) (s : State) (r : Ran) : Type 0 where
-  pub answers : answers_of r.told ≡ map (λ i. Refused OtherMajor) numbers
+  pub answers : answers_of r.told ≡ map (λ i. Err OtherMajor) numbers
   pub left : r.left ≡ s
 
 -- what is printed for the n answers in order, the listing being xs

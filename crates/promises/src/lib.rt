@@ -24,22 +24,22 @@ ghost use Rattle.replies.specs.Replies.{reply_statuses};
 use blocks::Step;
 use desk::{Desk, Taken};
 use manners::{Came, Ending, Sent};
-use meaning::{Checked, Kind, Read, Refusal};
+use meaning::{Kind, Listed, Refusal};
 use records::{Entry, Form};
 use slots::Slot;
 use std::io;
-use typed::Reply;
-use writer::{Unwritten, Written};
+use typed::Unanswered;
+use writer::Unwritten;
 
 // ---- the reader
 
-pub fn read(chunk: &[u8], out: &mut [u8]) -> Read
+pub fn read(chunk: &[u8], out: &mut [u8]) -> Result<Listed, Refusal>
     ensures { ReadSays chunk.now out.old result out.new }
 {
     reader::read(chunk, out)
 }
 
-pub fn check_chunk(chunk: &[u8]) -> Checked
+pub fn check_chunk(chunk: &[u8]) -> Result<(), Refusal>
     ensures { result ≡ checks chunk.now }
 {
     chunk_checks::check_chunk(chunk)
@@ -47,7 +47,7 @@ pub fn check_chunk(chunk: &[u8]) -> Checked
 
 // ---- a segment by itself
 
-pub fn check_segment(seg: &[u8]) -> Checked
+pub fn check_segment(seg: &[u8]) -> Result<(), Refusal>
     ensures { result ≡ segment_checks seg.now }
 {
     segments::check_segment(seg)
@@ -55,7 +55,7 @@ pub fn check_segment(seg: &[u8]) -> Checked
 
 // ---- the writer
 
-pub fn write(listing: &[u8], kind: Kind, out: &mut [u8]) -> Written
+pub fn write(listing: &[u8], kind: Kind, out: &mut [u8]) -> Result<usize, Unwritten>
     ensures { WriteSays listing.now kind out.old result out.new }
 {
     writer::write(listing, kind, out)
@@ -97,7 +97,7 @@ pub fn show<'a>(desk: Desk, kind: Kind, first: &'a [u8], second: &'a [u8]) -> &'
 
 // ---- what is typed, for programs in C, and the small ones
 
-pub fn respond(text: &[u8], log: &mut [u8]) -> Reply
+pub fn respond(text: &[u8], log: &mut [u8]) -> Result<usize, Unanswered>
     ensures { ReplySays text.now log.old result log.new }
 {
     typed::respond(text, log)
@@ -150,31 +150,31 @@ pub fn slot_fits(slot: Slot, bytes: &[u8]) -> bool
 pub fn kind_of(current: u8) -> Kind
     ensures { result ≡ kind_of current }
 {
-    meaning::kind_of(current)
+    Kind::from(current)
 }
 
 pub fn current_of(kind: Kind) -> u8
     ensures { result ≡ current_of kind }
 {
-    meaning::current_of(kind)
+    u8::from(kind)
 }
 
 pub fn number_of(refusal: Refusal) -> u8
     ensures { result ≡ number_of refusal }
 {
-    meaning::number_of(refusal)
+    u8::from(refusal)
 }
 
 pub fn offset_of(refusal: Refusal) -> u16
     ensures { result ≡ offset_of refusal }
 {
-    meaning::offset_of(refusal)
+    refusal.offset()
 }
 
 pub fn unwritten_number(refusal: Unwritten) -> u8
     ensures { result ≡ unwritten_number refusal }
 {
-    writer::unwritten_number(refusal)
+    u8::from(refusal)
 }
 
 pub fn word_of(first: u8, second: u8) -> u16

@@ -3,26 +3,22 @@
 
 ghost use Rattle.meaning.specs.Reading.{ReadSays};
 
-use meaning::{Checked, LONGEST_LISTING, Read, Refusal};
+use meaning::{Kind, LONGEST_LISTING, Listed, Refusal};
 
 // Reads a chunk: its listing goes to the start of the lent buffer, and a refusal writes nothing.
-pub fn read(chunk: &[u8], out: &mut [u8]) -> Read
+pub fn read(chunk: &[u8], out: &mut [u8]) -> Result<Listed, Refusal>
     ensures { ReadSays chunk.now out.old result out.new }
 {
     if out.len() < LONGEST_LISTING {
-        return Read::Refused(Refusal::ShortBuffer);
+        return Err(Refusal::ShortBuffer);
     }
-    match chunk_checks::check_chunk(chunk) {
-        Checked::Fault(refusal) => Read::Refused(refusal),
-        Checked::Fine => {
-            let length = listing_puts::write_listing(chunk, out);
-            let kind = meaning::kind_of(chunk[1] % 2);
-            let minor = chunk[0] / 8 % 8;
-            Read::Listed {
-                kind: kind,
-                minor: minor,
-                length: length,
-            }
-        }
-    }
+    chunk_checks::check_chunk(chunk)?;
+    let length = listing_puts::write_listing(chunk, out);
+    let kind = Kind::from(chunk[1] % 2);
+    let minor = chunk[0] / 8 % 8;
+    Ok(Listed {
+        kind,
+        minor,
+        length,
+    })
 }

@@ -5,30 +5,26 @@
 mod made;
 
 use made::Made;
-use meaning::{LONGEST_LISTING, Read};
+use meaning::{LONGEST_LISTING, Listed, Refusal};
 use std::io::Write;
 
 const ROOM: usize = 1500;
 
 const BEFORE: u8 = 0xA5;
 
-fn say_answer<W: Write>(to: &mut W, answer: Read, buffer: &[u8]) {
+fn say_answer<W: Write>(to: &mut W, answer: Result<Listed, Refusal>, buffer: &[u8]) {
     let mut length = 0;
     match answer {
-        Read::Listed {
-            kind,
-            minor,
-            length: n,
-        } => {
+        Ok(listed) => {
+            length = listed.length;
             tell::say_number(to, 0);
-            tell::say_kind(to, kind);
-            tell::say_number(to, minor as u64);
-            tell::say_number(to, n as u64);
+            tell::say_kind(to, listed.kind);
+            tell::say_number(to, listed.minor as u64);
+            tell::say_number(to, length as u64);
             tell::say(to, b" ");
-            tell::say_hex(to, buffer, n);
-            length = n;
+            tell::say_hex(to, buffer, length);
         }
-        Read::Refused(refusal) => tell::say_refusal(to, refusal),
+        Err(refusal) => tell::say_refusal(to, refusal),
     }
     tell::say_kept(to, buffer, length, BEFORE);
 }

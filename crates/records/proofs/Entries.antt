@@ -17,7 +17,7 @@ use Rattle.records.specs.declared.Form.{Form}
 use Rattle.records.specs.declared.Form.TheVariants.{Foreign, Fixed, Counted}
 use Rattle.records.specs.declared.Entry.{Entry}
 use Rattle.records.specs.declared.Entry.TheVariants.{End, Whole, Unknown, Cut}
-use Rattle.records.specs.Records.{mark_bytes, length_bytes, mark_in, Forms, entry_as, entry_of, entry_in, is_whole, size_of, record_in, end_number, last_line, longest_last}
+use Rattle.records.specs.Records.{mark_bytes, length_bytes, mark_in, Forms, form_bytes, entry_as, entry_of, entry_in, is_whole, size_of, record_in, end_number, last_line, longest_last}
 
 abbrev unknown : Entry → Bool
 unknown Unknown = true
@@ -45,11 +45,6 @@ abbrev pub size_by : Form → List ℕ → ℕ
 size_by Foreign xs = mark_bytes
 size_by (Fixed n) xs = mark_bytes + n
 size_by (Counted least most) xs = mark_bytes + length_bytes + count_in xs
-
-abbrev pub form_bytes : Form → ℕ
-form_bytes Foreign = mark_bytes
-form_bytes (Fixed n) = mark_bytes + n
-form_bytes (Counted least most) = mark_bytes + length_bytes + most
 
 telling_inside : (f : Form) (xs : List ℕ) → (mark_bytes ≤ telling_bytes f) × (telling_bytes f ≤ size_by f xs) × (telling_bytes f ≤ form_bytes f)
 telling_inside Foreign xs = (omega arith, omega arith, omega arith)
@@ -291,15 +286,15 @@ module _ (forms : Forms) (xs rest : List ℕ) where
 abbrev pub Within : ℕ → Forms → Type 0
 Within longest forms = (m : ℕ) → form_bytes (forms m) ≤ longest
 
-module _ (forms : Forms) (longest : ℕ) (within : Within longest forms) (xs : List ℕ) where
+module _ (forms : Forms) (longest : ℕ) (xs : List ℕ) (within : form_bytes (forms (mark_in xs)) ≤ longest) where
   mark-short : mark_bytes ≤ longest
-  mark-short = omega (arith, telling_inside (forms (mark_in xs)) xs, within (mark_in xs))
+  mark-short = omega (arith, telling_inside (forms (mark_in xs)) xs)
 
   short_of : (e : Entry) → Shape forms xs e → (e ≡ End) ⊎ (e ≡ Cut) → length xs < longest
   short_of End h w = omega (arith, mark-short)
   short_of Cut (inl h) w = omega (arith, mark-short)
-  short_of Cut (inr (f, e, two, inl l)) w = omega (arith, telling_inside f xs, within (mark_in xs), ap form_bytes e)
-  short_of Cut (inr (f, e, two, inr (a, l))) w = omega (arith, size-within f xs a, within (mark_in xs), ap form_bytes e)
+  short_of Cut (inr (f, e, two, inl l)) w = omega (arith, telling_inside f xs, ap form_bytes e)
+  short_of Cut (inr (f, e, two, inr (a, l))) w = omega (arith, size-within f xs a, ap form_bytes e)
   short_of (Whole n) h (inl w) = absurd (true≢false (ap is_whole w))
   short_of (Whole n) h (inr w) = absurd (true≢false (ap is_whole w))
   short_of Unknown h (inl w) = absurd (true≢false (ap unknown w))

@@ -26,6 +26,12 @@ mark_of w = word (get_or (text w) 0 0) (get_or (text w) 1 0)
 abbrev pub Forms : Type 0
 Forms = ℕ → Form
 
+-- the bytes of the longest record that it tells
+abbrev pub form_bytes : Form → ℕ
+form_bytes Foreign = mark_bytes
+form_bytes (Fixed n) = mark_bytes + n
+form_bytes (Counted least most) = mark_bytes + length_bytes + most
+
 -- ---- what stands at the start of xs: the end, a whole record of so many bytes, an unknown mark or one with a length that it does not take, or a record that
 -- is cut
 

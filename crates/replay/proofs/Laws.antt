@@ -8,6 +8,7 @@ use native.Mathlib.Omega.{arith}
 use borrow.Author.Tests.{ne_eqb}
 use lib.ListN.{length, take, drop, length-drop}
 use lib.Seq.{length-take-le, drop-drop}
+use Rattle.std.proofs.Common.{Ok}
 use Rattle.text.specs.Text.{Put}
 use Rattle.text.proofs.Laws.{put_same}
 use Rattle.records.specs.declared.Form.{Form}
@@ -70,7 +71,7 @@ module _ (d : Desk) (xs first second : List ℕ) (r : After) (is : r ≡ segment
   pub left_is : (r.desk ≡ (segment_after d xs first second).desk) × (r.first ≡ (segment_after d xs first second).first) × (r.second ≡ (segment_after d xs first second).second)
   left_is = (ap (λ (q : After). q.desk) is, ap (λ (q : After). q.first) is, ap (λ (q : After). q.second) is)
 
-  module _ (k : Kind) (n : ℕ) (e : r.answer ≡ NewList k n) where
+  module _ (k : Kind) (n : ℕ) (e : r.answer ≡ Ok (NewList k n)) where
     abbrev Shows : After → Type 0
     Shows q = (k ≡ segment_kind xs) × (n ≤ length (lent_for k d.notes.swapped q.first q.second)) × (q.desk.notes.swapped ≡ d.notes.swapped) × (n ≤ longest_listing) × (shown k q.desk q.first q.second ≡ take n (lent_for k d.notes.swapped q.first q.second))
 
@@ -85,7 +86,7 @@ module _ (d : Desk) (xs first second : List ℕ) (r : After) (is : r ≡ segment
 
     pub listed_same : (l : List ℕ) → l ≡ take n (lent_for k r.desk.notes.swapped r.first r.second) → list_lines k l ≡ answer_lines (segment_after d xs first second).answer (shown (segment_kind xs) r.desk r.first r.second)
     listed_same l is' =
-        listed_lines (NewList k n) k n l refl
+        listed_lines (Ok (NewList k n)) k n l refl
         ∙ ap₂ answer_lines (sym e ∙ answer_is)
         (is'
         ∙ ap (λ t. take n (lent_for k t r.first r.second)) shows.2
@@ -119,53 +120,7 @@ module _ (s : State) (mark : ℕ) (content : List ℕ) (out left : List ℕ) (to
       by_call (wholly s content) (simp (ne_eqb _ _ f, ne_eqb _ _ g)) (state d first second) leaves
       (put_same out to (λ i. answer_lines (sym (lent_whole s content) i).answer (shown_in (segment_kind content) (leaves i))) p)
 
--- ---- a mark, and a record at a place of a log
+-- ---- a mark
 
 pub form_foreign : (m : ℕ) → (m ≡ mark_of "FR" → ⊥) → (m ≡ mark_of "GA" → ⊥) → (m ≡ mark_of "SG" → ⊥) → Foreign ≡ log_form m
 form_foreign m f g h = simp (ne_eqb _ _ f, ne_eqb _ _ g, ne_eqb _ _ h)
-
-pub entry_by : (xs : List ℕ) (mark : ℕ) (form : Form) (e : Entry) → mark ≡ mark_in xs → form ≡ log_form mark → e ≡ entry_as form xs → e ≡ entry_in log_form xs
-entry_by = programs.entry_by log_form
-
-module _ (log : List ℕ) (at n : ℕ) where
-  pub whole_there : at ≤ length log → Whole n ≡ entry_in log_form (drop at log) → (mark_bytes ≤ n) × (at + n ≤ length log)
-  whole_there inside stands =
-      let size : n ≡ size_of (entry_in log_form (drop at log)) = ap size_of stands in
-      (omega (arith, whole_some log_form (drop at log) (ap is_whole (sym stands))), omega (arith, size-inside log_form (drop at log), length-drop at log))
-
-  pub content_there : take (at + n - (at + mark_bytes)) (drop (at + mark_bytes) log) ≡ (record_in n (drop at log)).content
-  content_there =
-      let bytes : at + n - (at + mark_bytes) ≡ n - mark_bytes = omega arith in
-      ap₂ take bytes (sym (drop-drop mark_bytes at log))
-
-module _ (s : State) (log : List ℕ) (at to : ℕ) (out left : List ℕ) (wrote : ℕ) (e : Entry) (stands : e ≡ entry_in log_form (drop at log)) where
-  abbrev xs : List ℕ
-  xs = drop at log
-
-  pub turned_whole : is_whole e ≡ true → (mark : ℕ) (content : List ℕ) (t : State) (read : ℕ) → mark ≡ mark_in (drop at log) → content ≡ (record_in (size_of e) (drop at log)).content → CallSays s mark content t out to left wrote → read ≡ at + size_of e → Turned log_program s (drop at log) at to out t read left wrote
-  turned_whole w mark content t read m c says is =
-      let whole : is_whole (entry_in log_form xs) ≡ true = ap is_whole (sym stands) ∙ w in
-      let there : record { mark = mark; content = content } ≡ record_in (size_of (entry_in log_form xs)) xs =
-      (λ i. record { mark = m i; content = c i }) ∙ ap (λ (k : Entry). record_in (size_of k) xs) stands in
-      let next : next_in log_program s xs ≡ log_program.next s (record { mark = mark; content = content }) = rw whole (ap (log_program.next s) (sym there)) in
-      let text : log_program.text s (record { mark = mark; content = content }) ≡ text_in log_program s xs = rw whole (ap (log_program.text s) there) in
-      (says.0 ∙ sym next, is ∙ ap (λ (k : Entry). at + size_of k) stands, put_same out to text says.1)
-
-  pub turned_none : is_whole e ≡ false → (m : Notes) (read : ℕ) → m ≡ s.desk.notes → read ≡ at → wrote ≡ to → left ≡ out → Turned log_program s (drop at log) at to out (state (desk m s.desk.bytes) s.first s.second) read left wrote
-  turned_none w m read is r p l =
-      let none : is_whole (entry_in log_form xs) ≡ false = ap is_whole (sym stands) ∙ w in
-      let size : size_of (entry_in log_form xs) ≡ 0 = none_size (entry_in log_form xs) none in (
-        rw none (λ i. state (desk (is i) s.desk.bytes) s.first s.second),
-        r ∙ sym (add-zero at) ∙ ap (λ (k : ℕ). at + k) (sym size),
-        rw none (p ∙ sym (add-zero to), l),
-      )
-
--- the desk's numbers copied
-pub turned_anew : (s : State) (xs : List ℕ) (at to : ℕ) (out : List ℕ) (m n : Notes) (bytes first second : List ℕ) (read : ℕ) (left : List ℕ) (wrote : ℕ) → n ≡ m → Turned log_program s xs at to out (state (desk m bytes) first second) read left wrote → Turned log_program s xs at to out (state (desk n bytes) first second) read left wrote
-turned_anew s _ at to out m n bytes first second read left wrote is t = (ap (λ (o : Notes). state (desk o bytes) first second) is ∙ t.0, t.1, t.2)
-
--- the numbers that the code hands out are those of the last turn
-pub filled_is : (out₀ : List ℕ) (f₀ : Filled State) (out : List ℕ) (at to : ℕ) (m n : Notes) (read wrote : ℕ) (bytes first second : List ℕ) → Goes out₀ f₀ out at to (still (state (desk m bytes) first second)) → (n ≡ m) × (read ≡ at) × (wrote ≡ to) → (state (desk n bytes) first second ≡ f₀.state) × (read ≡ f₀.read) × Put f₀.text out₀ 0 out wrote
-filled_is out₀ f₀ out at to m n read wrote bytes first second g same =
-    let d = goes_end out₀ f₀ out at to (state (desk m bytes) first second) g in
-    (ap (λ (o : Notes). state (desk o bytes) first second) same.0 ∙ d.0, same.1 ∙ d.1, (same.2 ∙ d.2.0, d.2.1))

@@ -6,18 +6,20 @@ use Prim.Native.Nat.{ℕ, ◌≤◌}
 use native.Mathlib.Omega.{arith}
 use lib.Dec.{eqb}
 use lib.ListN.{length, take, length-take}
+use Rattle.std.proofs.Common.{Result, Ok, Err}
 use Rattle.records.specs.declared.Form.{Form}
 use Rattle.records.specs.declared.Form.TheVariants.{Foreign, Fixed}
-use Rattle.records.specs.Records.{mark_of, Record, File, file_in}
+use Rattle.records.specs.Records.{mark_of, Record, File, file_in, form_bytes}
 use Rattle.records.specs.declared.Entry.{Entry}
 use Rattle.records.specs.Transcripts.{text_of, printed_with as Transcripts·printedWith}
-use Rattle.records.proofs.Entries.{form_bytes, Within}
+use Rattle.records.proofs.Entries.{Within}
 use Rattle.records.proofs.Transcripts.{Fits}
+use Rattle.meaning.specs.declared.Refusal.{Refusal}
 use Rattle.meaning.specs.declared.Kind.{Kind}
 use Rattle.meaning.specs.declared.Kind.TheVariants.{This}
 use Rattle.meaning.specs.Sizes.{longest_listing}
 use Rattle.slots.specs.declared.Answer.{Answer}
-use Rattle.slots.specs.declared.Answer.TheVariants.{Missing, NewList, Refused}
+use Rattle.slots.specs.declared.Answer.TheVariants.{Missing, NewList}
 use Rattle.segments.specs.Segment.{segment_bytes, segment_kind}
 use Rattle.notes.specs.Notes.{lent_for}
 use Rattle.desk.specs.declared.Desk.{Desk}
@@ -91,10 +93,10 @@ length-shown k s =
     let n : ℕ = shown_length k s.desk s.first s.second in
     omega (arith, length-take n (lent_for k s.desk.notes.swapped s.first s.second), shown_small k s.desk s.first s.second)
 
-pub few : (d : Desk) (xs first second : List ℕ) (a : Answer) → (segment_after d xs first second).answer ≡ a → Countable a
-few d xs first second (Missing n) is = omega (arith, missing_few d xs first second n is)
-few d xs first second (NewList k n) is = tt
-few d xs first second (Refused f) is = omega (arith, refusal_small d xs first second f is)
+pub few : (d : Desk) (xs first second : List ℕ) (a : Result Answer Refusal) → (segment_after d xs first second).answer ≡ a → Countable a
+few d xs first second (Ok (Missing n)) is = omega (arith, missing_few d xs first second n is)
+few d xs first second (Ok (NewList k n)) is = tt
+few d xs first second (Err f) is = omega (arith, refusal_small d xs first second f is)
 
 told_fits : (s : State) (c : Call) → length (lines_of (told_by segment_after s c)) ≤ longest_lines
 told_fits s frame = length-frame (shown_in This (left_by segment_after s frame)) (length-shown This (left_by segment_after s frame))
@@ -103,7 +105,7 @@ told_fits s (segment c) =
     let t : State = left_by segment_after s (segment c) in
     let one : List ℕ = take c.first s.first in
     let two : List ℕ = take c.second s.second in
-    let a : Answer = (segment_after s.desk c.segment one two).answer in
+    let a : Result Answer Refusal = (segment_after s.desk c.segment one two).answer in
     length-answer a (shown_in (segment_kind c.segment) t) (few s.desk c.segment one two a refl) (length-shown (segment_kind c.segment) t)
 
 pub lines_fit : Fits log_program

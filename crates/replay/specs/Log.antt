@@ -5,7 +5,7 @@ use Rattle.text.specs.Text.{Put}
 use Rattle.records.specs.declared.Entry.{Entry}
 use Rattle.records.specs.declared.Form.TheVariants.{Foreign, Fixed}
 use Rattle.records.specs.Records.{mark_bytes, mark_of, Forms, Record, file_in, last_line}
-use Rattle.records.specs.Transcripts.{Program, filled}
+use Rattle.records.specs.Transcripts.{Program}
 use Rattle.segments.specs.Segment.{segment_bytes}
 use Rattle.desk.specs.Desks.{segment_after}
 use Rattle.desk.specs.Calls.{Call, frame, gathering, State, wholly, left_by, Told, framed, begun, answered, told_by, ran}
@@ -62,9 +62,3 @@ abbrev pub CallSays : State → ℕ → List ℕ → State → List ℕ → ℕ 
 CallSays s mark content t out to left end =
     let r : Record = record { mark = mark; content = content } in
     (t ≡ log_program.next s r) × Put (log_program.text s r) out to left end
-
--- what the records at the start of a block leave, as many as the output takes
-abbrev pub FillSays : State → List ℕ → List ℕ → State → ℕ → List ℕ → ℕ → Type 0
-FillSays s block out t read left wrote =
-    let f = filled log_program (length out) s block in
-    (t ≡ f.state) × (read ≡ f.read) × Put f.text out 0 left wrote

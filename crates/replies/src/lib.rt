@@ -9,7 +9,7 @@ ghost use Rattle.manners.specs.Manners.{status_of, EndsWriting};
 
 use manners::{Ending, FAILED, MISUSED};
 use std::io::{Read, Write};
-use typed::{LONGEST_LOG, Reply};
+use typed::{LONGEST_LOG, Unanswered};
 use writer::Unwritten;
 
 // Puts out a log.
@@ -24,7 +24,7 @@ fn put<W: Write>(to: &mut W, log: &[u8]) -> Ending
 fn refuse<W: Write>(reasons: &mut W, refusal: Unwritten) -> Ending
     ensures { result ≡ Ending.Over (unwritten_number refusal) }
 {
-    let number = writer::unwritten_number(refusal);
+    let number = u8::from(refusal);
     manners::tell_refused(reasons, b"write", number);
     Ending::Over(number)
 }
@@ -43,15 +43,17 @@ fn answer<W: Write, V: Write>(text: &[u8], to: &mut W, reasons: &mut V) -> Endin
 {
     let mut log = [0u8; LONGEST_LOG];
     match typed::respond(text, &mut log) {
-        Reply::Log(length) => put(to, &log[..length]),
-        Reply::Not(refusal) => refuse(reasons, refusal),
-        Reply::Unclear => say(
+        Ok(length) => put(to, &log[..length]),
+        Err(Unanswered::Not(refusal)) => refuse(reasons, refusal),
+        Err(Unanswered::Unclear) => say(
             reasons,
             b"write: not the word this or next, a space, and a listing in hex\n",
             MISUSED,
         ),
-        Reply::TooLong => say(reasons, b"write: more than 65,535 bytes\n", MISUSED),
-        Reply::NoRoom => say(reasons, b"write: no room for the log\n", FAILED),
+        Err(Unanswered::TooLong) => {
+            say(reasons, b"write: more than 65,535 bytes\n", MISUSED)
+        }
+        Err(Unanswered::NoRoom) => say(reasons, b"write: no room for the log\n", FAILED),
     }
 }
 

@@ -2,6 +2,7 @@
 use mathlib.Core.Path.{◌≡◌, refl, sym, ap, ◌∙◌}
 use mathlib.Core.Bool.{Bool, true, false, not, cond}
 use mathlib.Core.List.{List, [], flat_map, append-nil}
+use Rattle.std.proofs.Common.{Result}
 use Prim.Native.Nat.{ℕ, zero, suc, ◌+◌, ◌*◌, ◌/◌, ◌≤◌, ◌<◌}
 use native.Mathlib.Nat.{div-mul-le_self}
 use native.Mathlib.Omega.{arith}
@@ -18,10 +19,10 @@ use Rattle.packets.specs.Stored.{line}
 use Rattle.packets.proofs.Laws.{is_carried_lem}
 use Rattle.tunnel.proofs.Results.{take_put}
 use Rattle.wrapper.specs.declared.Numbers.{Numbers}
-use Rattle.wrapper.specs.declared.Wrapped.{Wrapped}
-use Rattle.wrapper.specs.declared.Wrapped.TheVariants.{ShortOutput, BadSize, NotCarried}
-use Rattle.wrapper.specs.Wrap.{most_size, most_wrapped, is_size, Writer, writer, left_by, Waiting, waiting_in, joined, running, outer_of, outers_of, rest_of, wrapped_values, Result, unchanged, given, giving, full_in, wrapped, last_of, closed, Leaves}
-use Rattle.wrapper.proofs.Laws.{size-within, left_less, begin_most}
+use Rattle.wrapper.specs.declared.Refusal.{Refusal}
+use Rattle.wrapper.specs.declared.Refusal.TheVariants.{ShortOutput, BadSize, NotCarried}
+use Rattle.wrapper.specs.Wrap.{most_size, most_wrapped, is_size, Writer, writer, left_by, Waiting, waiting_in, joined, running, outer_of, outers_of, rest_of, wrapped_values, Outcome, unchanged, given, giving, full_in, wrapped, last_of, closed, Leaves}
+use Rattle.wrapper.proofs.Laws.{refusal_within, size-within, left_less, begin_most}
 use Rattle.wrapper.proofs.Outers.{length-outer_of}
 use Rattle.wrapper.proofs.Later.{length-line-outers}
 use Rattle.wrapper.proofs.Answers.{wrote_most}
@@ -29,10 +30,6 @@ use Rattle.round_trip.specs.Calls.{Same, EndToEnd, Full, Last}
 use Rattle.round_trip.proofs.Lengths.{outers_full, none_left, waits_less}
 
 -- ---- by what a call comes to
-
--- a refusal
-abbrev pub Refusal : Wrapped → Type 0
-Refusal a = ((wrapped_values a).number ≡ 0 → ⊥) × ((wrapped_values a).wrote ≡ 0)
 
 module _ (w : Writer) (output : List ℕ) where
   abbrev size : ℕ
@@ -56,15 +53,15 @@ module _ (w : Writer) (output : List ℕ) where
   abbrev pub nothing : Waiting
   nothing = running w.numbers.timestamp []
 
-  module _ (P : Result → Type 0) (refused : (a : Wrapped) → Refusal a → P (unchanged w output a)) where
+  module _ (P : Outcome → Type 0) (refused : (a : Refusal) → P (unchanged w output a)) where
     giving_cases : (outers : List (List ℕ)) (v : Waiting) → (length (line outers) ≤ length output → P (given w output outers v)) → P (giving w output outers v)
     unfolding giving
     giving_cases outers v gives =
-        either (ltb (length output) (length (line outers))) (λ e. rw e (refused ShortOutput (λ z. omega (arith, z), refl)))
+        either (ltb (length output) (length (line outers))) (λ e. rw e (refused ShortOutput))
         (λ e. rw e (gives (ltb-false (length output) (length (line outers)) e)))
 
-    sized_cases : (u : Result) → (is_size size ≡ true → P u) → P (check (not (is_size size)) (unchanged w output BadSize) u)
-    sized_cases u sized = either (is_size size) (λ t. rw t (sized t)) (λ t. rw t (refused BadSize (λ z. omega (arith, z), refl)))
+    sized_cases : (u : Outcome) → (is_size size ≡ true → P u) → P (check (not (is_size size)) (unchanged w output BadSize) u)
+    sized_cases u sized = either (is_size size) (λ t. rw t (sized t)) (λ t. rw t (refused BadSize))
 
     pub write_cases : (packet : List ℕ) (timestamp : ℕ) → (is_size size ≡ true → is_carried packet ≡ true → length (line (filled packet timestamp)) ≤ length output → P (given w output (filled packet timestamp) (unfilled packet timestamp))) → P (wrapped w output packet timestamp)
     unfolding wrapped
@@ -72,7 +69,7 @@ module _ (w : Writer) (output : List ℕ) where
         sized_cases _
         (λ s.
         either (is_carried packet) (λ t. rw t (giving_cases (filled packet timestamp) (unfilled packet timestamp) (gives s t)))
-        (λ t. rw t (refused NotCarried (λ z. omega (arith, z), refl))))
+        (λ t. rw t (refused NotCarried)))
 
     pub close_cases : (is_size size ≡ true → length (line last) ≤ length output → P (given w output last nothing)) → P (closed w output)
     unfolding closed
@@ -80,12 +77,12 @@ module _ (w : Writer) (output : List ℕ) where
 
   -- ---- a refusal changes nothing; the outer packets stand end to end at the start of the output, and nothing else of it changes
 
-  abbrev Told : Result → Type 0
+  abbrev Told : Outcome → Type 0
   Told u = (((wrapped_values u.answer).number ≡ 0 → ⊥) → Same w output u) × EndToEnd output u
 
-  told_refused : (a : Wrapped) → Refusal a → Told (unchanged w output a)
+  told_refused : (a : Refusal) → Told (unchanged w output a)
   unfolding line flat_map
-  told_refused a r = (λ h. (refl, refl, refl, r.1), (r.1, rw r.1 refl, refl))
+  told_refused a = (λ h. (refl, refl, refl, refl), (refl, refl, refl))
 
   told_given : (outers : List (List ℕ)) (v : Waiting) → length (line outers) ≤ length output → Told (given w output outers v)
   told_given outers v room = (λ h. absurd (h refl), (refl, take_put (line outers) output room, drop-sets (line outers) output 0 (length (line outers)) (omega arith)))
@@ -118,7 +115,7 @@ module _ (w : Writer) (output : List ℕ) where
 
   pub write-outers_full : (packet : List ℕ) (timestamp : ℕ) → Full size (wrapped w output packet timestamp).outers
   write-outers_full packet timestamp =
-      write_cases (λ u. Full size u.outers) (λ a r. tt) packet timestamp (λ s c room. filled_full packet timestamp)
+      write_cases (λ u. Full size u.outers) (λ a. tt) packet timestamp (λ s c room. filled_full packet timestamp)
 
   last_shorter : (v : Waiting) → length v.bytes < size → Last size (last_of w v)
   last_shorter v less =
@@ -134,7 +131,7 @@ module _ (w : Writer) (output : List ℕ) where
 
   pub close-outers-short : Last size (closed w output).outers
   close-outers-short =
-      close_cases (λ u. Last size u.outers) (λ a r. (omega arith, tt))
+      close_cases (λ u. Last size u.outers) (λ a. (omega arith, tt))
       (λ s room. last_shorter (waiting_in w) (waits_less w (omega (arith, size-within size s))))
 
   -- ---- what is left
@@ -142,11 +139,11 @@ module _ (w : Writer) (output : List ℕ) where
   pub write-leaves_less : (packet : List ℕ) (timestamp : ℕ) → is_size size ≡ true → length (waiting_in (wrapped w output packet timestamp).writer).bytes < size
   write-leaves_less packet timestamp s =
       let some : 0 < size = omega (arith, size-within size s) in
-      write_cases (λ u. length (waiting_in u.writer).bytes < size) (λ a r. waits_less w some) packet timestamp (λ s c room. waits_less _ some)
+      write_cases (λ u. length (waiting_in u.writer).bytes < size) (λ a. waits_less w some) packet timestamp (λ s c room. waits_less _ some)
 
   pub close-leaves_none : (wrapped_values (closed w output).answer).number ≡ 0 → (waiting_in (closed w output).writer).bytes ≡ []
   close-leaves_none =
-      close_cases (λ u. (wrapped_values u.answer).number ≡ 0 → (waiting_in u.writer).bytes ≡ []) (λ a r z. absurd (r.0 z))
+      close_cases (λ u. (wrapped_values u.answer).number ≡ 0 → (waiting_in u.writer).bytes ≡ []) (λ a z. absurd (omega (arith, refusal_within a)))
       (λ s room z. ap (λ (n : ℕ). take n w.bytes) (none_left _ refl))
 
   -- ---- the numbers, each exactly when its check comes first
@@ -205,7 +202,7 @@ module _ (w : Writer) (output : List ℕ) where
 
   pub write_most : (packet : List ℕ) (timestamp : ℕ) → (wrapped_values (wrapped w output packet timestamp).answer).wrote ≤ most_wrapped
   write_most packet timestamp =
-      write_cases w output (λ u. (wrapped_values u.answer).wrote ≤ most_wrapped) (λ a r. omega (arith, r.1)) packet timestamp
+      write_cases w output (λ u. (wrapped_values u.answer).wrote ≤ most_wrapped) (λ a. omega arith) packet timestamp
       (λ s c room.
       let v : Waiting = joined (waiting_in w) packet timestamp in
       let n : ℕ = length v.bytes in
@@ -215,7 +212,7 @@ module _ (w : Writer) (output : List ℕ) where
 
   pub close_most : (wrapped_values (closed w output).answer).wrote ≤ most_wrapped
   close_most =
-      close_cases w output (λ u. (wrapped_values u.answer).wrote ≤ most_wrapped) (λ a r. omega (arith, r.1))
+      close_cases w output (λ u. (wrapped_values u.answer).wrote ≤ most_wrapped) (λ a. omega arith)
       (λ s room.
       let within = size-within w.numbers.size s in
       let n : ℕ = length (waiting_in w).bytes in
@@ -224,7 +221,7 @@ module _ (w : Writer) (output : List ℕ) where
 
   pub write_small : Small w.numbers → (packet : List ℕ) (timestamp : ℕ) → Small (wrapped w output packet timestamp).writer.numbers
   write_small small packet timestamp =
-      write_cases w output (λ u. Small u.writer.numbers) (λ a r. small) packet timestamp
+      write_cases w output (λ u. Small u.writer.numbers) (λ a. small) packet timestamp
       (λ s c room.
       let v : Waiting = joined (waiting_in w) packet timestamp in
       let j = joined-short s packet timestamp c in
@@ -233,8 +230,8 @@ module _ (w : Writer) (output : List ℕ) where
       (small.0, omega (arith, r.0), omega (arith, r.1)))
 
   pub close_small : Small w.numbers → Small (closed w output).writer.numbers
-  close_small small = close_cases w output (λ u. Small u.writer.numbers) (λ a r. small) (λ s room. (small.0, omega arith, omega arith))
+  close_small small = close_cases w output (λ u. Small u.writer.numbers) (λ a. small) (λ s room. (small.0, omega arith, omega arith))
 
 -- two results can't both meet the statement
-pub one_result : {u : Result} {a b : Wrapped} {m n : Numbers} {p p' o o' : List ℕ} → Leaves u a m p o → Leaves u b n p' o' → (a ≡ b) × (writer m p ≡ writer n p') × (o ≡ o')
+pub one_result : {u : Outcome} {a b : Result ℕ Refusal} {m n : Numbers} {p p' o o' : List ℕ} → Leaves u a m p o → Leaves u b n p' o' → (a ≡ b) × (writer m p ≡ writer n p') × (o ≡ o')
 one_result s t = (s.answers ∙ sym t.answers, s.holds ∙ sym t.holds, s.leaves ∙ sym t.leaves)

@@ -17,12 +17,12 @@ use Rattle.packets.proofs.Laws.{is_carried_lem}
 use Rattle.tunnel.specs.Outer.{longest_outer}
 use Rattle.tunnel.proofs.Found.{line-append}
 use Rattle.tunnel.proofs.Results.{take_put}
-use Rattle.wrapper.specs.declared.Wrapped.{Wrapped}
-use Rattle.wrapper.specs.Wrap.{most_size, is_size, Writer, left_by, begin_by, Waiting, waiting_in, outer_of, outers_of, wrapped_values, Result, unchanged, holding, given, full_in}
+use Rattle.wrapper.specs.declared.Refusal.{Refusal}
+use Rattle.wrapper.specs.Wrap.{most_size, is_size, Writer, left_by, begin_by, Waiting, waiting_in, outer_of, outers_of, refusal_number, Outcome, unchanged, holding, given, full_in}
 use Rattle.carriage.specs.Sent.{Sendable, Choice, Fits, taken, sent}
 use Rattle.carriage.proofs.Outers.{outer_sent}
 use Rattle.round_trip.specs.Trips.{Call, write, close, Fair, called, taken_by}
-use Rattle.wrapper.proofs.Laws.{size-within}
+use Rattle.wrapper.proofs.Laws.{refusal_within, size-within}
 use Rattle.round_trip.proofs.Lengths.{waits_less}
 use Rattle.round_trip.proofs.Results.{waiting_with, filled, unfilled, last, nothing, write_cases, close_cases}
 use Rattle.round_trip.proofs.Parts.{taken_append, sent_count}
@@ -53,7 +53,7 @@ pub record Stands (first : ℕ) (packets : List (List ℕ)) (cs : List Choice) (
 
 -- ---- after one: more packets, and more payloads
 
-pub record Stepped (first : ℕ) (packets more : List (List ℕ)) (cs : List Choice) (u : Result) : Type 0 where
+pub record Stepped (first : ℕ) (packets more : List (List ℕ)) (cs : List Choice) (u : Outcome) : Type 0 where
   pub choices : List Choice
   pub are : u.outers ≡ sent (packets ++ more) (first + length cs) (taken cs) choices
   pub stands : Stands first (packets ++ more) (cs ++ choices) u.writer
@@ -94,7 +94,7 @@ module _ (first : ℕ) (packets : List (List ℕ)) (cs : List Choice) (w : Write
             };
       }
 
-  refused_stepped : (a : Wrapped) → Stepped first packets [] cs (unchanged w output a)
+  refused_stepped : (a : Refusal) → Stepped first packets [] cs (unchanged w output a)
   unfolding sent
   refused_stepped a = record { choices = []; are = refl; stands = rw (append-nil packets, append-nil cs) s }
 
@@ -183,9 +183,9 @@ module _ (first : ℕ) (packets : List (List ℕ)) (cs : List Choice) (w : Write
 pub stepped : (first : ℕ) (packets : List (List ℕ)) (cs : List Choice) (w : Writer) → Stands first packets cs w → (c : Call) → Fair c → Stepped first packets (taken_by c (called w c)) cs (called w c)
 stepped first packets cs w s (write packet timestamp output) fair =
     write_cases w output (λ u. Stepped first packets (taken_by (write packet timestamp output) u) cs u)
-    (λ a r. rw (ne_eqb (wrapped_values a).number 0 r.0) (refused_stepped first packets cs w s output a))
+    (λ a. rw (ne_eqb (refusal_number a) 0 (λ e. omega (arith, refusal_within a))) (refused_stepped first packets cs w s output a))
     packet timestamp
     (λ sized c room. written_stepped first packets cs w s output packet timestamp (record { carried = is_carried_lem packet c; bytes = fair.0 }) fair.1)
 stepped first packets cs w s (close output) fair =
-    close_cases w output (Stepped first packets [] cs) (λ a r. refused_stepped first packets cs w s output a)
+    close_cases w output (Stepped first packets [] cs) (λ a. refused_stepped first packets cs w s output a)
     (λ sized room. closed-stepped first packets cs w s output)

@@ -13,7 +13,7 @@ use Rattle.packets.specs.Stored.{line}
 use Rattle.tunnel.specs.Outer.{is_outer}
 use Rattle.tunnel.specs.Unwrap.{reader, fresh_numbers}
 use Rattle.tunnel.proofs.Found.{start-nothing}
-use Rattle.wrapper.specs.Wrap.{most_size, is_size, Writer, left_by, begin_by, Result}
+use Rattle.wrapper.specs.Wrap.{most_size, is_size, Writer, left_by, begin_by, Outcome}
 use Rattle.carriage.specs.Sent.{Sendable, Choice, taken, between, sent}
 use Rattle.carriage.specs.Fed.{Call as Read-as-Call, fed, out_of, Read, Long, TakesUp, Feeds}
 use Rattle.carriage.proofs.InOrder.{sent-append, in_order_lem}
@@ -37,7 +37,7 @@ gone : (first : ℕ) (packets : List (List ℕ)) (cs : List Choice) (w : Writer)
 unfolding given taken_in sent flat_map
 gone first packets cs w s [] fair = record { choices = []; are = refl; stands = rw (append-nil packets, append-nil cs) s }
 gone first packets cs w s (c ∷ calls) fair =
-    let u : Result = called w c in
+    let u : Outcome = called w c in
     let one : Stepped first packets (taken_by c u) cs u = stepped first packets cs w s c fair.0 in
     let ps : List (List ℕ) = packets ++ taken_by c u in
     let ds : List Choice = one.choices in

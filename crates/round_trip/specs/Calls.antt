@@ -3,14 +3,14 @@ use Rattle.std.specs.Prelude.{ℕ, ◌+◌, ◌≤◌, ◌<◌, ◌≡◌, List,
 use Rattle.octets.specs.Each.{Each}
 use Rattle.rtp.specs.Header.{header_bytes}
 use Rattle.packets.specs.Stored.{line}
-use Rattle.wrapper.specs.Wrap.{Writer, wrapped_values, Result}
+use Rattle.wrapper.specs.Wrap.{Writer, wrapped_values, Outcome}
 
 -- nothing changes, and nothing is written
-abbrev pub Same : Writer → List ℕ → Result → Type 0
+abbrev pub Same : Writer → List ℕ → Outcome → Type 0
 Same w output u = (u.writer ≡ w) × (u.output ≡ output) × (u.outers ≡ []) × ((wrapped_values u.answer).wrote ≡ 0)
 
 -- the outer packets stand end to end at the start of the output, as many bytes as the answer says, and nothing behind them changes
-abbrev pub EndToEnd : List ℕ → Result → Type 0
+abbrev pub EndToEnd : List ℕ → Outcome → Type 0
 EndToEnd output u =
     let n = (wrapped_values u.answer).wrote in
     (n ≡ length (line u.outers)) × (take n u.output ≡ line u.outers) × (drop n u.output ≡ drop n output)

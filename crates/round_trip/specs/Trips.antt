@@ -3,7 +3,7 @@ use Rattle.std.specs.Prelude.{ℕ, ◌-◌, ◌^◌, ◌<◌, cond, ◌||◌, le
 use mathlib.Core.List.{List, [], ◌∷◌, ◌++◌, flat_map}
 use Rattle.octets.specs.Bits.{Bytes}
 use Rattle.rtp.specs.Header.{payload_in}
-use Rattle.wrapper.specs.Wrap.{Writer, writer, fresh_numbers, waiting_in, wrapped_values, Result, wrapped, closed}
+use Rattle.wrapper.specs.Wrap.{Writer, writer, fresh_numbers, waiting_in, wrapped_values, Outcome, wrapped, closed}
 
 -- a call: a packet, its timestamp and a lent output; or the close, with a lent output
 pub data Call : Type 0 where
@@ -16,11 +16,11 @@ Fair (write packet timestamp output) = Bytes packet × (timestamp < 2 ^ 32)
 Fair (close output) = Unit {0}
 
 -- what each leaves
-abbrev pub called : Writer → Call → Result
+abbrev pub called : Writer → Call → Outcome
 called w (write packet timestamp output) = wrapped w output packet timestamp
 called w (close output) = closed w output
 
-unfoldable pub given : Writer → List Call → List Result
+unfoldable pub given : Writer → List Call → List Outcome
 given w [] = []
 given w (c ∷ cs) = let u = called w c in u ∷ given u.writer cs
 
@@ -37,11 +37,11 @@ abbrev pub left_after : Writer → List Call → List ℕ
 left_after w cs = (waiting_in (after w cs)).bytes
 
 -- the outer packets that were given, in order
-abbrev pub outers_in : List Result → List (List ℕ)
+abbrev pub outers_in : List Outcome → List (List ℕ)
 outers_in us = flat_map (λ u. u.outers) us
 
 -- the packets that were taken, in order: those of the calls that were not refused
-abbrev pub taken_by : Call → Result → List (List ℕ)
+abbrev pub taken_by : Call → Outcome → List (List ℕ)
 taken_by (write packet timestamp output) u = cond (eqb (wrapped_values u.answer).number 0) (packet ∷ []) []
 taken_by (close output) u = []
 

@@ -17,7 +17,7 @@ fn move_segment(kind: Kind, last: u8, number: u8, out: &mut [u8])
     let at = SEGMENT_BYTES * number as usize;
     let payload = segments::payload_at(out, PAYLOAD_BYTES * number as usize);
     segments::put_payload(payload, out, at + SEGMENT_HEADER_BYTES);
-    out[at] = 48 + meaning::current_of(kind) * 2;
+    out[at] = 48 + u8::from(kind) * 2;
     out[at + 1] = number * 16 + last;
 }
 

@@ -4,10 +4,10 @@ use mathlib.Core.List.{List, ◌∷◌, ◌++◌, map}
 use Prim.Native.Nat.{ℕ, zero, suc, ◌+◌, ◌-◌, ◌*◌, ◌≤◌, ◌<◌}
 use native.Mathlib.Omega.{arith}
 use lib.ListN.{length, drop, length-map}
+use Rattle.std.proofs.Common.{Ok}
 use Rattle.octets.specs.Bits.{Held, Bytes}
 use Rattle.octets.specs.Each.{Each}
 use Rattle.octets.proofs.Laws.{bytes_take, bytes_drop, bytes-append, get_d_byte}
-use Rattle.meaning.specs.declared.Checked.TheVariants.{Fine}
 use Rattle.meaning.specs.Sizes.{longest_chunk}
 use Rattle.meaning.specs.Reading.{major_in, kind_in}
 use Rattle.segments.specs.Segment.{segment_bytes, payload_bytes, most_segments, place_of, head_fields, sort_in, segment_major, segment_kind, error_in, number_in, last_in, payload_in, segment_checks}
@@ -60,7 +60,7 @@ module _ (xs : List ℕ) (c : Choice) (bytes : Bytes xs) (suits : Suits xs c) (r
       let size : length (place_of whole i) ≡ payload_bytes = length_part whole (payload_bytes * i) (omega (arith, suits.whole)) in
       (omega (arith, r.7), r.0, r.3, r.1, r.2, r.4, r.5, r.6)
 
-  pub piece-passes : major_in xs ≡ 0 → segment_checks (piece_of xs c i) ≡ Fine
+  pub piece-passes : major_in xs ≡ 0 → segment_checks (piece_of xs c i) ≡ Ok tt
   piece-passes major =
       let r = piece-read in
       checks_fine (piece_of xs c i) r.0 r.1 r.2 (r.3 ∙ major) (omega (arith, r.5, r.6))

@@ -1,46 +1,19 @@
 -- Laws of 35 bytes at a place. Assumes nothing.
 use mathlib.Core.Path.{◌≡◌, refl, sym, ap, ap₂, ◌∙◌}
-use mathlib.Core.List.{List, [], ◌∷◌, ◌++◌, append-nil}
+use mathlib.Core.List.{List, [], ◌∷◌, ◌++◌}
 use Prim.Native.Nat.{ℕ, zero, suc, ◌+◌, ◌*◌, ◌≤◌, ◌<◌}
 use native.Mathlib.Nat.{zero-add, suc-add, mul-suc}
-use native.Mathlib.Numerals.{add-one}
 use native.Mathlib.Omega.{arith}
-use lib.ListN.{length, get_or, set, take, drop, replicate, length-drop, drop_of_length-le}
-use lib.Seq.{drop-cons, get_or-take, get_or-drop, length-take-le, take-nil, take-add, take_all, take-append-le, drop-append-le, sets, sets-eq}
+use lib.ListN.{length, take, drop, length-drop}
+use lib.Seq.{length-take-le, take-nil, take-add, take_all, take-append-le, drop-append-le}
 use Rattle.segments.specs.Segment.{segment_bytes, segment_header_bytes, payload_bytes, place_of, payload_in}
 
 -- the 35 bytes from the place at on
 abbrev pub part : List ℕ → ℕ → List ℕ
 part xs at = take payload_bytes (drop at xs)
 
-abbrev blank : List ℕ
-blank = replicate payload_bytes 0
-
-module _ (xs : List ℕ) (at : ℕ) where
-  pub get_d_part : (i : ℕ) → i < payload_bytes → get_or (part xs at) i 0 ≡ get_or xs (at + i) 0
-  get_d_part i h = get_or-take payload_bytes (drop at xs) i 0 h ∙ get_or-drop at xs i 0
-
-  module _ (room : at + payload_bytes ≤ length xs) where
-    pub length_part : length (part xs at) ≡ payload_bytes
-    length_part = length-take-le payload_bytes (drop at xs) (omega (arith, length-drop at xs))
-
-    -- copied to a string of as many bytes, byte by byte: what is left of it, put here, makes the whole
-    pub part_start : sets blank 0 (part xs at) ≡ part xs at
-    part_start =
-        let room : 0 + length (part xs at) ≤ length blank = omega (arith, length_part) in
-        sets-eq (part xs at) blank 0 room
-        ∙ ap (λ (n : ℕ). part xs at ++ drop (0 + n) blank) length_part
-        ∙ append-nil (part xs at)
-
-    pub part_next : (l : List ℕ) (i : ℕ) → i < payload_bytes → sets (set l i (get_or xs (at + i) 0)) (i + 1) (drop (i + 1) (part xs at)) ≡ sets l i (drop i (part xs at))
-    part_next l i h =
-        let inside : i < length (part xs at) = omega (arith, length_part) in
-        rw (add-one i)
-        (ap (λ (b : ℕ). sets (set l i b) (suc i) (drop (suc i) (part xs at))) (sym (get_d_part i h))
-        ∙ sym (ap (sets l i) (drop-cons (part xs at) i 0 inside)))
-
-    pub part_done : (l : List ℕ) (i : ℕ) → payload_bytes ≤ i → sets l i (drop i (part xs at)) ≡ l
-    part_done l i h = let past : length (part xs at) ≤ i = omega (arith, length_part) in ap (sets l i) (drop_of_length-le (part xs at) past)
+pub length_part : (xs : List ℕ) (at : ℕ) → at + payload_bytes ≤ length xs → length (part xs at) ≡ payload_bytes
+length_part xs at room = length-take-le payload_bytes (drop at xs) (omega (arith, length-drop at xs))
 
 -- a segment's payload is all that follows its header
 pub part_payload : (xs : List ℕ) → length xs ≡ segment_bytes → part xs segment_header_bytes ≡ payload_in xs

@@ -1,13 +1,12 @@
 -- A/153 Part 3:2013, Table 6.9: the fields of a FIC segment in the standard's order and the bytes that they make; and document 01's checks on
 -- a segment by itself, with the fields by their places.
-use Rattle.std.specs.Prelude.{ℕ, ◌*◌, ◌/◌, ◌%◌, not, List, [], ◌∷◌, ◌++◌, ltb, eqb, length, get_or, take, drop}
+use Rattle.std.specs.Prelude.{ℕ, ◌*◌, ◌/◌, ◌%◌, not, List, [], ◌∷◌, ◌++◌, ltb, eqb, length, get_or, take, drop, Result, Ok, Err}
 use Rattle.octets.specs.Bits.{Field, run, bytes_of}
 use Rattle.octets.specs.Tables.{Row, row, one, filled}
 use Rattle.octets.specs.Checks.{check}
+use Rattle.meaning.specs.declared.Refusal.{Refusal}
 use Rattle.meaning.specs.declared.Kind.{Kind}
 use Rattle.meaning.specs.declared.Refusal.TheVariants.{SegmentLength, SegmentType, ErrorBit, OtherMajor, NumberAboveLast}
-use Rattle.meaning.specs.declared.Checked.{Checked}
-use Rattle.meaning.specs.declared.Checked.TheVariants.{Fine, Fault}
 use Rattle.meaning.specs.Lists.{kind_of}
 
 -- ---- sizes: a segment, its header, its payload; how many segments a chunk has at the most
@@ -94,11 +93,11 @@ payload_in xs = drop segment_header_bytes xs
 
 -- ---- the checks on a segment's own length and header
 
-unfoldable pub segment_checks : List ℕ → Checked
+unfoldable pub segment_checks : List ℕ → Result Unit Refusal
 segment_checks xs =
-    check (not (eqb (length xs) segment_bytes)) (Fault SegmentLength)  -- 2
-    (check (not (eqb (sort_in xs) 0)) (Fault SegmentType)  -- 3
-    (check (not (eqb (error_in xs) 0)) (Fault ErrorBit)  -- 4
-    (check (not (eqb (segment_major xs) 0)) (Fault OtherMajor)  -- 5
-    (check (ltb (last_in xs) (number_in xs)) (Fault NumberAboveLast)  -- 6
-    Fine))))
+    check (not (eqb (length xs) segment_bytes)) (Err SegmentLength)  -- 2
+    (check (not (eqb (sort_in xs) 0)) (Err SegmentType)  -- 3
+    (check (not (eqb (error_in xs) 0)) (Err ErrorBit)  -- 4
+    (check (not (eqb (segment_major xs) 0)) (Err OtherMajor)  -- 5
+    (check (ltb (last_in xs) (number_in xs)) (Err NumberAboveLast)  -- 6
+    (Ok tt)))))

@@ -5,7 +5,7 @@ ghost use Rattle.std.specs.Prelude.{◌≡◌, ◌+◌, ◌≤◌, length, take,
 ghost use Rattle.std.proofs.lemmas.List.Edits.{sets};
 ghost use Rattle.segments.specs.Segment.{payload_bytes, segment_checks};
 
-use meaning::{Checked, Refusal};
+use meaning::Refusal;
 
 // A segment, its header and its payload; how many segments a chunk has at the most.
 pub const SEGMENT_BYTES: usize = 37;
@@ -18,41 +18,37 @@ pub const MOST_SEGMENTS: u8 = 16;
 
 // The checks on a segment's own length and header, in document 01's order.
 #[tactic(auto, unfolding(crate::specs::Segment::segment_checks))]
-pub fn check_segment(seg: &[u8]) -> Checked
+pub fn check_segment(seg: &[u8]) -> Result<(), Refusal>
     ensures { result ≡ segment_checks seg.now }
 {
     if seg.len() != SEGMENT_BYTES {
-        return Checked::Fault(Refusal::SegmentLength);
+        return Err(Refusal::SegmentLength);
     }
     let first = seg[0];
     let second = seg[1];
     if first / 64 != 0 {
-        return Checked::Fault(Refusal::SegmentType);
+        return Err(Refusal::SegmentType);
     }
     if first % 2 != 0 {
-        return Checked::Fault(Refusal::ErrorBit);
+        return Err(Refusal::ErrorBit);
     }
     if first / 4 % 4 != 0 {
-        return Checked::Fault(Refusal::OtherMajor);
+        return Err(Refusal::OtherMajor);
     }
     if second % 16 < second / 16 {
-        return Checked::Fault(Refusal::NumberAboveLast);
+        return Err(Refusal::NumberAboveLast);
     }
-    Checked::Fine
+    Ok(())
 }
 
-// 35 bytes from a place on, by value: so the copies to and from them are known to touch nothing else, and go in blocks. Internal, as the two
-// below: `slots`, `segment_puts` and `writer` call them (docs/DECISIONS.md, 7).
+// 35 bytes from a place on, by value: so they may go to another place of the same string. Internal, as the two below: `slots`, `segment_puts` and
+// `writer` call them (docs/DECISIONS.md, 7).
 pub fn payload_at(bytes: &[u8], at: usize) -> [u8; 35]
     requires { at + payload_bytes ≤ length bytes.now }
     ensures { result ≡ take payload_bytes (drop at bytes.now) }
 {
     let mut payload = [0u8; PAYLOAD_BYTES];
-    let mut i = 0;
-    while i < PAYLOAD_BYTES {
-        payload[i] = bytes[at + i];
-        i += 1;
-    }
+    payload.copy_from_slice(&bytes[at..at + PAYLOAD_BYTES]);
     payload
 }
 
@@ -61,11 +57,7 @@ pub fn put_payload(payload: [u8; 35], to: &mut [u8], place: usize)
     requires { place + payload_bytes ≤ length to.old }
     ensures { to.new ≡ sets to.old place payload }
 {
-    let mut i = 0;
-    while i < PAYLOAD_BYTES {
-        to[place + i] = payload[i];
-        i += 1;
-    }
+    to[place..place + PAYLOAD_BYTES].copy_from_slice(&payload);
 }
 
 // Puts 35 bytes from a place of one string at a place of another.
@@ -73,6 +65,5 @@ pub fn copy_payload(from: &[u8], at: usize, to: &mut [u8], place: usize)
     requires { (at + payload_bytes ≤ length from.now) × (place + payload_bytes ≤ length to.old) }
     ensures { to.new ≡ sets to.old place (take payload_bytes (drop at from.now)) }
 {
-    let payload = payload_at(from, at);
-    put_payload(payload, to, place);
+    put_payload(payload_at(from, at), to, place);
 }

@@ -9,10 +9,10 @@ use lib.Dec.{eqb, ltb}
 use lib.ListN.{length, take, drop, length-drop}
 use lib.Seq.{sets, length-sets, take_all, take_at}
 use lib.Pow.{pow_pos}
+use Rattle.std.proofs.Common.{Result, Ok, Err}
+use Rattle.meaning.specs.declared.Refusal.{Refusal}
 use Rattle.meaning.specs.declared.Kind.{Kind}
 use Rattle.meaning.specs.declared.Refusal.TheVariants.{SegmentLength, SegmentType, ErrorBit, OtherMajor, NumberAboveLast}
-use Rattle.meaning.specs.declared.Checked.{Checked}
-use Rattle.meaning.specs.declared.Checked.TheVariants.{Fine, Fault}
 use Rattle.meaning.specs.Sizes.{longest_chunk}
 use Rattle.meaning.specs.Reading.{checks}
 use Rattle.slots.specs.declared.Slot.{Slot}
@@ -33,7 +33,7 @@ pub all_below_lem : (n : ℕ) (f : ℕ → Bool) → ((i : ℕ) → i < n → f 
 all_below_lem zero f h = refl
 all_below_lem (suc n) f h = simp (h n (omega arith)) (all_below_lem n f (λ i l. h i (omega arith)))
 
-below_all : (n : ℕ) (f : ℕ → Bool) → all_below n f ≡ true → (i : ℕ) → i < n → f i ≡ true
+pub below_all : (n : ℕ) (f : ℕ → Bool) → all_below n f ≡ true → (i : ℕ) → i < n → f i ≡ true
 below_all zero f e i l = absurd (omega arith)
 below_all (suc n) f e i l =
     let p = (and-eq-true_iff (f n) (all_below n f)).0 e in
@@ -54,20 +54,20 @@ place-stored bytes vs i e h =
 
 -- ---- what a segment has that passed its checks, and what a well formed slot has
 
-pub segment-passes : (xs : List ℕ) → segment_checks xs ≡ Fine → (length xs ≡ segment_bytes) × (number_in xs ≤ last_in xs) × (segment_major xs ≡ 0)
+pub segment-passes : (xs : List ℕ) → segment_checks xs ≡ Ok tt → (length xs ≡ segment_bytes) × (number_in xs ≤ last_in xs) × (segment_major xs ≡ 0)
 unfolding segment_checks
 segment-passes xs p =
     let a = check_passed _ SegmentLength _ p in
     let b = check_passed (not (eqb (sort_in xs) 0)) SegmentType _ a.1 in
     let d = check_passed (not (eqb (error_in xs) 0)) ErrorBit _ b.1 in
     let g = check_passed (not (eqb (segment_major xs) 0)) OtherMajor _ d.1 in
-    let n = check_passed _ NumberAboveLast Fine g.1 in
+    let n = check_passed _ NumberAboveLast (Ok tt) g.1 in
     (eqb-true _ _ (not-false _ a.0), ltb-false _ _ n.0, eqb-true _ _ (not-false _ g.0))
 
 pub last_small : (xs : List ℕ) → last_in xs < most_segments
 last_small xs = omega arith
 
-pub number_small : (xs : List ℕ) → segment_checks xs ≡ Fine → number_in xs < most_segments
+pub number_small : (xs : List ℕ) → segment_checks xs ≡ Ok tt → number_in xs < most_segments
 number_small xs p = omega (arith, segment-passes xs p)
 
 slot_parts : (s : Slot) (bytes : List ℕ) → slot_fits s bytes ≡ true → (length bytes ≡ longest_chunk) × (numbers_fit s ≡ true) × (bytes_fit s.held bytes ≡ true)
@@ -131,7 +131,7 @@ place-fits held bytes vs n i f e l h =
     either (eqb n i) (λ q. simp (ap (holds (including held n)) (sym (eqb-true n i q)) ∙ holds-including held n f))
     (λ q. simp (holds-other held n i f (eqb-false n i q), place_kept bytes vs n i e (eqb-false n i q) l) h)
 
-pub hold-fits : (xs : List ℕ) (s : Slot) (bytes : List ℕ) → slot_fits s bytes ≡ true → segment_checks xs ≡ Fine → clashing s bytes xs ≡ false → holds s.held (number_in xs) ≡ false → slot_fits (holding s xs) (sets bytes (payload_bytes * number_in xs) (payload_in xs)) ≡ true
+pub hold-fits : (xs : List ℕ) (s : Slot) (bytes : List ℕ) → slot_fits s bytes ≡ true → segment_checks xs ≡ Ok tt → clashing s bytes xs ≡ false → holds s.held (number_in xs) ≡ false → slot_fits (holding s xs) (sets bytes (payload_bytes * number_in xs) (payload_in xs)) ≡ true
 unfolding slot_fits
 hold-fits xs s bytes e p c f =
     let w = slot_parts s bytes e in
@@ -149,16 +149,16 @@ hold-fits xs s bytes e p c f =
 abbrev fits : Side → Type 0
 fits s = slot_fits s.slot s.bytes ≡ true
 
-judged-fits : (r : Checked) (k : Kind) (s : Side) → fits s → fits (judged r k s).side
-judged-fits (Fault f) k s h = h
-judged-fits Fine k s h = h
+judged-fits : (r : Result Unit Refusal) (k : Kind) (s : Side) → fits s → fits (judged r k s).side
+judged-fits (Err f) k s h = h
+judged-fits (Ok _) k s h = h
 
 placed-fits : (k : Kind) (s : Side) → fits s → fits (placed k s).side
 unfolding completed
 placed-fits k s h =
     either (eqb (missing_in s.slot) 0) (λ q. simp q (judged-fits (kind_checks (checks (chunk_in s)) k (chunk_in s)) k s h)) (λ q. simp q h)
 
-pub gathered-fits : (k : Kind) (xs : List ℕ) (s : Side) → slot_fits s.slot s.bytes ≡ true → segment_checks xs ≡ Fine → slot_fits (gathered k xs s).side.slot (gathered k xs s).side.bytes ≡ true
+pub gathered-fits : (k : Kind) (xs : List ℕ) (s : Side) → slot_fits s.slot s.bytes ≡ true → segment_checks xs ≡ Ok tt → slot_fits (gathered k xs s).side.slot (gathered k xs s).side.bytes ≡ true
 unfolding gathered
 gathered-fits k xs s h p =
     either (clashing s.slot s.bytes xs) (λ c. simp c spoiled_fits)

@@ -10,18 +10,17 @@ use lib.Dec.{eqb}
 use lib.ListN.{length, get_or, take, drop, length-drop}
 use lib.Seq.{take_all, sets, sets-eq}
 use lib.Pow.{pow_mono}
+use Rattle.std.proofs.Common.{Result, Ok, Err}
 use Rattle.meaning.specs.declared.Kind.{Kind}
 use Rattle.meaning.specs.declared.Refusal.{Refusal}
 use Rattle.meaning.specs.declared.Refusal.TheVariants.{Clash, KindDiffers}
-use Rattle.meaning.specs.declared.Checked.{Checked}
-use Rattle.meaning.specs.declared.Checked.TheVariants.{Fine, Fault}
 use Rattle.meaning.specs.Sizes.{longest_listing}
 use Rattle.meaning.specs.Lists.{current_of}
 use Rattle.meaning.specs.Listing.{listing}
 use Rattle.meaning.specs.Reading.{checks, list_in}
 use Rattle.meaning.proofs.Lengths.{listing-fits}
 use Rattle.slots.specs.declared.Slot.{Slot}
-use Rattle.slots.specs.declared.Answer.TheVariants.{Missing, NewList, Refused}
+use Rattle.slots.specs.declared.Answer.TheVariants.{Missing, NewList}
 use Rattle.octets.specs.Same.{same}
 use Rattle.octets.proofs.Laws.{either}
 use Rattle.segments.specs.Segment.{segment_bytes, segment_header_bytes, payload_bytes, most_segments, place_of, number_in, last_in, payload_in, segment_checks}
@@ -33,24 +32,24 @@ use Rattle.slots.proofs.Keeps.{slot-numbers, hold-fits}
 -- ---- a complete slot
 
 module _ (k : Kind) (s : Side) where
-  pub chunk_refused : {f : Refusal} → checks (chunk_in s) ≡ Fault f → outcome (Refused f) s ≡ completed k s
+  pub chunk_refused : {f : Refusal} → checks (chunk_in s) ≡ Err f → outcome (Err f) s ≡ completed k s
   unfolding completed
-  chunk_refused e = sym (ap (λ (v : Checked). judged (kind_checks v k (chunk_in s)) k s) e)
+  chunk_refused e = sym (ap (λ (v : Result Unit Refusal). judged (kind_checks v k (chunk_in s)) k s) e)
 
-  pub kind_refused : checks (chunk_in s) ≡ Fine → (get_or (chunk_in s) 1 0 % 2 ≡ current_of k → ⊥) → outcome (Refused KindDiffers) s ≡ completed k s
+  pub kind_refused : checks (chunk_in s) ≡ Ok tt → (get_or (chunk_in s) 1 0 % 2 ≡ current_of k → ⊥) → outcome (Err KindDiffers) s ≡ completed k s
   unfolding completed
-  kind_refused e h = sym (ap (λ (v : Checked). judged (kind_checks v k (chunk_in s)) k s) e ∙ simp (ne_eqb _ _ h))
+  kind_refused e h = sym (ap (λ (v : Result Unit Refusal). judged (kind_checks v k (chunk_in s)) k s) e ∙ simp (ne_eqb _ _ h))
 
-  pub completed_listed : checks (chunk_in s) ≡ Fine → get_or (chunk_in s) 1 0 % 2 ≡ current_of k → let l = listing (list_in (chunk_in s)) in completed k s ≡ outcome (NewList k (length l)) (side s.slot s.bytes (l ++ drop (length l) s.buffer))
+  pub completed_listed : checks (chunk_in s) ≡ Ok tt → get_or (chunk_in s) 1 0 % 2 ≡ current_of k → let l = listing (list_in (chunk_in s)) in completed k s ≡ outcome (Ok (NewList k (length l))) (side s.slot s.bytes (l ++ drop (length l) s.buffer))
   unfolding completed
-  completed_listed e h = ap (λ (v : Checked). judged (kind_checks v k (chunk_in s)) k s) e ∙ simp (eq-eqb _ _ h)
+  completed_listed e h = ap (λ (v : Result Unit Refusal). judged (kind_checks v k (chunk_in s)) k s) e ∙ simp (eq-eqb _ _ h)
 
-  pub chunk_listed : (n : ℕ) (after : List ℕ) → longest_listing ≤ length s.buffer → checks (chunk_in s) ≡ Fine → get_or (chunk_in s) 1 0 % 2 ≡ current_of k → n ≡ length (listing (list_in (chunk_in s))) → after ≡ sets s.buffer 0 (listing (list_in (chunk_in s))) → outcome (NewList k n) (side s.slot s.bytes after) ≡ completed k s
+  pub chunk_listed : (n : ℕ) (after : List ℕ) → longest_listing ≤ length s.buffer → checks (chunk_in s) ≡ Ok tt → get_or (chunk_in s) 1 0 % 2 ≡ current_of k → n ≡ length (listing (list_in (chunk_in s))) → after ≡ sets s.buffer 0 (listing (list_in (chunk_in s))) → outcome (Ok (NewList k n)) (side s.slot s.bytes after) ≡ completed k s
   chunk_listed n after room e h size stored =
       let l : List ℕ = listing (list_in (chunk_in s)) in
       let fits : 0 + length l ≤ length s.buffer = omega (arith, listing-fits (chunk_in s) e) in
       let left = stored ∙ sets-eq l s.buffer 0 fits ∙ ap (λ (m : ℕ). l ++ drop m s.buffer) (zero-add (length l)) in
-      (λ i. outcome (NewList k (size i)) (side s.slot s.bytes (left i))) ∙ sym (completed_listed e h)
+      (λ i. outcome (Ok (NewList k (size i))) (side s.slot s.bytes (left i))) ∙ sym (completed_listed e h)
 
 -- ---- whether a segment clashes
 
@@ -84,14 +83,14 @@ module _ (s : Slot) (bytes xs : List ℕ) where
 -- ---- a segment comes
 
 module _ (k : Kind) (xs : List ℕ) (s : Side) where
-  pub gathered-clash : clashing s.slot s.bytes xs ≡ true → outcome (Refused Clash) (spoil s) ≡ gathered k xs s
+  pub gathered-clash : clashing s.slot s.bytes xs ≡ true → outcome (Err Clash) (spoil s) ≡ gathered k xs s
   unfolding gathered
   gathered-clash c = simp c
 
   module _ (c : clashing s.slot s.bytes xs ≡ false) where
-    pub gathered-repeat : (n : ℕ) → holds s.slot.held (number_in xs) ≡ true → n ≡ missing_in s.slot → outcome (Missing n) s ≡ gathered k xs s
+    pub gathered-repeat : (n : ℕ) → holds s.slot.held (number_in xs) ≡ true → n ≡ missing_in s.slot → outcome (Ok (Missing n)) s ≡ gathered k xs s
     unfolding gathered
-    gathered-repeat n h e = ap (λ (m : ℕ). outcome (Missing m) s) e ∙ simp (c, h)
+    gathered-repeat n h e = ap (λ (m : ℕ). outcome (Ok (Missing m)) s) e ∙ simp (c, h)
 
     module _ (h : holds s.slot.held (number_in xs) ≡ false) (b : ℕ) (is : b ≡ 2 ^ number_in xs) where
       -- the slot as the code makes it, with b for the place's bit
@@ -101,7 +100,7 @@ module _ (k : Kind) (xs : List ℕ) (s : Side) where
       more_is : more ≡ holding s.slot xs
       more_is i = record { last = last_in xs; held = s.slot.held + is i; spoiled = false }
 
-      module _ (fits : slot_fits s.slot s.bytes ≡ true) (passes : segment_checks xs ≡ Fine) where
+      module _ (fits : slot_fits s.slot s.bytes ≡ true) (passes : segment_checks xs ≡ Ok tt) where
         pub more_small : (more.last < most_segments) × (more.held < 2 ^ (more.last + 1))
         more_small =
             let n = slot-numbers (holding s.slot xs) (hold xs s).bytes (hold-fits xs s.slot s.bytes fits passes c h) in
@@ -116,10 +115,10 @@ module _ (k : Kind) (xs : List ℕ) (s : Side) where
         left_is : n ≡ missing_in (holding s.slot xs)
         left_is = e ∙ ap missing_in more_is
 
-        pub gathered_more : (n ≡ 0 → ⊥) → outcome (Missing n) (side more bytes s.buffer) ≡ gathered k xs s
+        pub gathered_more : (n ≡ 0 → ⊥) → outcome (Ok (Missing n)) (side more bytes s.buffer) ≡ gathered k xs s
         unfolding gathered
         gathered_more some =
-            (λ i. outcome (Missing (left_is i)) (side (more_is i) (stored i) s.buffer))
+            (λ i. outcome (Ok (Missing (left_is i))) (side (more_is i) (stored i) s.buffer))
             ∙ simp (c, h, ne_eqb _ _ (λ (z : missing_in (holding s.slot xs) ≡ 0). some (left_is ∙ z)))
 
         pub gathered_last : (o : Outcome) → n ≡ 0 → o ≡ completed k (side more bytes s.buffer) → o ≡ gathered k xs s
@@ -138,16 +137,16 @@ module _ (P : Outcome → Type 0) (k : Kind) (xs : List ℕ) (s : Side) where
   abbrev free : Type 0
   free = (clashing s.slot s.bytes xs ≡ false) × (holds s.slot.held (number_in xs) ≡ false)
 
-  completed_cases : ((f : Refusal) → kind_checks (checks chunk) k chunk ≡ Fault f → P (outcome (Refused f) (hold xs s))) → (kind_checks (checks chunk) k chunk ≡ Fine → P (judged Fine k (hold xs s))) → P (completed k (hold xs s))
+  completed_cases : ((f : Refusal) → kind_checks (checks chunk) k chunk ≡ Err f → P (outcome (Err f) (hold xs s))) → (kind_checks (checks chunk) k chunk ≡ Ok tt → P (judged (Ok tt) k (hold xs s))) → P (completed k (hold xs s))
   unfolding completed
   completed_cases refused listed = go (kind_checks (checks chunk) k chunk) refl
     where
-      go : (v : Checked) → kind_checks (checks chunk) k chunk ≡ v → P (judged v k (hold xs s))
-      go (Fault f) e = refused f e
-      go Fine e = listed e
+      go : (v : Result Unit Refusal) → kind_checks (checks chunk) k chunk ≡ v → P (judged v k (hold xs s))
+      go (Err f) e = refused f e
+      go (Ok _) e = listed e
 
   -- a clash; a repeat; one more; the last missing one, whose chunk is refused or listed
-  pub gathered_cases : (clashing s.slot s.bytes xs ≡ true → P (outcome (Refused Clash) (spoil s))) → (clashing s.slot s.bytes xs ≡ false → holds s.slot.held (number_in xs) ≡ true → P (outcome (Missing (missing_in s.slot)) s)) → (free → (missing_in (hold xs s).slot ≡ 0 → ⊥) → P (outcome (Missing (missing_in (hold xs s).slot)) (hold xs s))) → (free → missing_in (hold xs s).slot ≡ 0 → (f : Refusal) → kind_checks (checks chunk) k chunk ≡ Fault f → P (outcome (Refused f) (hold xs s))) → (free → missing_in (hold xs s).slot ≡ 0 → kind_checks (checks chunk) k chunk ≡ Fine → P (judged Fine k (hold xs s))) → P (gathered k xs s)
+  pub gathered_cases : (clashing s.slot s.bytes xs ≡ true → P (outcome (Err Clash) (spoil s))) → (clashing s.slot s.bytes xs ≡ false → holds s.slot.held (number_in xs) ≡ true → P (outcome (Ok (Missing (missing_in s.slot))) s)) → (free → (missing_in (hold xs s).slot ≡ 0 → ⊥) → P (outcome (Ok (Missing (missing_in (hold xs s).slot))) (hold xs s))) → (free → missing_in (hold xs s).slot ≡ 0 → (f : Refusal) → kind_checks (checks chunk) k chunk ≡ Err f → P (outcome (Err f) (hold xs s))) → (free → missing_in (hold xs s).slot ≡ 0 → kind_checks (checks chunk) k chunk ≡ Ok tt → P (judged (Ok tt) k (hold xs s))) → P (gathered k xs s)
   unfolding gathered
   gathered_cases clash again more refused listed =
       either (clashing s.slot s.bytes xs) (λ c. simp c (clash c))

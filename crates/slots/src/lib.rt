@@ -2,17 +2,16 @@
 // (docs/DECISIONS.md, 7).
 #![tactic(auto)]
 
-ghost use Rattle.std.specs.Prelude.{◌≡◌, true, cond, ◌+◌, ◌*◌, ◌^◌, ◌≤◌, ◌<◌, length, take, drop};
+ghost use Rattle.std.specs.Prelude.{◌≡◌, true, cond, ◌+◌, ◌*◌, ◌^◌, ◌≤◌, ◌<◌, length, take, drop, Ok};
 ghost use Rattle.std.proofs.lemmas.List.Edits.{sets};
 ghost use Rattle.meaning.specs.Sizes.{longest_listing, longest_chunk};
 ghost use Rattle.segments.specs.Segment.{segment_bytes, payload_bytes, most_segments, segment_checks, payload_in};
 ghost use Rattle.octets.specs.Same.{same as Same·same};
 ghost use Rattle.octets.specs.Sets.{holds as Sets·holds};
-ghost use Rattle.slots.specs.Slots.{zeros, no_bytes, missing_in, numbers_fit, bytes_fit, slot_fits, clashing};
+ghost use Rattle.slots.specs.Slots.{no_bytes, missing_in, numbers_fit, bytes_fit, slot_fits, clashing};
 ghost use Rattle.slots.specs.Gathering.{side, outcome, gathered, completed};
-ghost use Rattle.slots.specs.Words.{eight};
 
-use meaning::{Checked, Kind, LONGEST_CHUNK, Refusal};
+use meaning::{Kind, LONGEST_CHUNK, Refusal};
 use segments::{MOST_SEGMENTS, PAYLOAD_BYTES, SEGMENT_HEADER_BYTES};
 
 // A slot's numbers; its bytes stand apart. An empty slot has zeros only, a spoiled one besides its mark.
@@ -23,21 +22,20 @@ pub struct Slot {
     pub spoiled: bool,
 }
 
-// What the desk answers to a segment.
+// What the desk answers to a segment that it doesn't refuse.
 #[derive(Clone, Copy)]
 pub enum Answer {
     // accepted; so many are still missing
     Missing(u8),
     // the last missing one: a listing of this length now stands at the start of that kind's buffer
     NewList { kind: Kind, length: usize },
-    Refused(Refusal),
 }
 
 // An answer, with the slot afterwards.
 #[derive(Clone, Copy)]
 pub struct Gathered {
     pub slot: Slot,
-    pub answer: Answer,
+    pub answer: Result<Answer, Refusal>,
 }
 
 // ---- the set of held places
@@ -67,38 +65,12 @@ fn missing(slot: Slot) -> u8
 
 // ---- the bytes of a place
 
-// Eight bytes as one number.
-fn word_at(s: &[u8], at: usize) -> u64
-    requires { at + 8 ≤ length s.now }
-    ensures { result ≡ eight s.now at }
-{
-    wide(s[at])
-        + wide(s[at + 1]) * 0x100
-        + wide(s[at + 2]) * 0x10000
-        + wide(s[at + 3]) * 0x1000000
-        + wide(s[at + 4]) * 0x100000000
-        + wide(s[at + 5]) * 0x10000000000
-        + wide(s[at + 6]) * 0x1000000000000
-        + wide(s[at + 7]) * 0x100000000000000
-}
-
-fn wide(byte: u8) -> u64
-    ensures value { result ≡ byte }
-    ensures upper_bound { result < 256 }
-{
-    byte as u64
-}
-
-// Whether 35 bytes of a are those of b: by words, the last two of which overlap.
+// Whether 35 bytes of a are those of b.
 fn same(a: &[u8], at: usize, b: &[u8], from: usize) -> bool
     requires { (at + payload_bytes ≤ length a.now) × (from + payload_bytes ≤ length b.now) }
     ensures { result ≡ Same·same (take payload_bytes (drop at a.now)) (take payload_bytes (drop from b.now)) }
 {
-    word_at(a, at) == word_at(b, from)
-        && word_at(a, at + 8) == word_at(b, from + 8)
-        && word_at(a, at + 16) == word_at(b, from + 16)
-        && word_at(a, at + 24) == word_at(b, from + 24)
-        && word_at(a, at + 27) == word_at(b, from + 27)
+    a[at..at + PAYLOAD_BYTES] == b[from..from + PAYLOAD_BYTES]
 }
 
 // Puts a segment's payload at a place.
@@ -111,23 +83,13 @@ fn store(bytes: &mut [u8], at: usize, seg: &[u8])
 
 // ---- slots
 
-fn wipe(bytes: &mut [u8])
-    ensures { bytes.new ≡ zeros (length bytes.old) }
-{
-    let mut i = 0;
-    while i < bytes.len() {
-        bytes[i] = 0;
-        i += 1;
-    }
-}
-
 // Clears the bytes of a slot; one that holds nothing has none. Internal.
 pub fn clear(slot: Slot, bytes: &mut [u8])
     requires { slot_fits slot bytes.old ≡ true }
     ensures { bytes.new ≡ no_bytes }
 {
     if slot.held != 0 {
-        wipe(bytes);
+        bytes.fill(0);
     }
 }
 
@@ -136,14 +98,13 @@ fn bytes_fit(held: u16, bytes: &[u8]) -> bool
     requires { length bytes.now ≡ longest_chunk }
     ensures { result ≡ bytes_fit held bytes.now }
 {
-    let none: &[u8] = &[0u8; PAYLOAD_BYTES];
-    let mut fits = true;
-    let mut place = 0u8;
-    while place < MOST_SEGMENTS {
-        fits = fits && (holds(held, place) || same(bytes, PAYLOAD_BYTES * place as usize, none, 0));
-        place += 1;
+    let none = [0u8; PAYLOAD_BYTES];
+    for place in 0..MOST_SEGMENTS {
+        if !holds(held, place) && !same(bytes, PAYLOAD_BYTES * place as usize, &none, 0) {
+            return false;
+        }
     }
-    fits
+    true
 }
 
 fn numbers_fit(slot: Slot) -> bool
@@ -199,25 +160,18 @@ fn clashes(slot: Slot, bytes: &[u8], seg: &[u8]) -> bool
 }
 
 // A complete slot's chunk: refused, or its listing put to the start of the buffer.
-fn complete(kind: Kind, slot: Slot, bytes: &[u8], out: &mut [u8]) -> Answer
+fn complete(kind: Kind, slot: Slot, bytes: &[u8], out: &mut [u8]) -> Result<Answer, Refusal>
     requires { (length bytes.now ≡ longest_chunk) × (slot.last < most_segments) × (longest_listing ≤ length out.old) }
     ensures { outcome result (side slot bytes.now out.new) ≡ completed kind (side slot bytes.now out.old) }
 {
     let end = PAYLOAD_BYTES * (slot.last as usize + 1);
     let chunk = &bytes[..end];
-    match chunk_checks::check_chunk(chunk) {
-        Checked::Fault(refusal) => Answer::Refused(refusal),
-        Checked::Fine => {
-            if chunk[1] % 2 != meaning::current_of(kind) {
-                return Answer::Refused(Refusal::KindDiffers);
-            }
-            let length = listing_puts::write_listing(chunk, out);
-            Answer::NewList {
-                kind: kind,
-                length: length,
-            }
-        }
+    chunk_checks::check_chunk(chunk)?;
+    if chunk[1] % 2 != u8::from(kind) {
+        return Err(Refusal::KindDiffers);
     }
+    let length = listing_puts::write_listing(chunk, out);
+    Ok(Answer::NewList { kind, length })
 }
 
 // The same, to the first of two buffers or the second.
@@ -228,7 +182,7 @@ fn complete_to(
     bytes: &[u8],
     first: &mut [u8],
     second: &mut [u8],
-) -> Answer
+) -> Result<Answer, Refusal>
     requires { (length bytes.now ≡ longest_chunk) × (slot.last < most_segments) × (longest_listing ≤ length first.old) × (longest_listing ≤ length second.old) }
     ensures second_after { outcome result (side slot bytes.now (cond one first.new second.new)) ≡ completed kind (side slot bytes.now (cond one first.old second.old)) }
     ensures first_unchanged { cond one second.new first.new ≡ cond one second.old first.old }
@@ -250,7 +204,7 @@ pub fn gather(
     first: &mut [u8],
     second: &mut [u8],
 ) -> Gathered
-    requires { (slot_fits slot bytes.old ≡ true) × (segment_checks seg.now ≡ Checked.Fine) × (longest_listing ≤ length first.old) × (longest_listing ≤ length second.old) }
+    requires { (slot_fits slot bytes.old ≡ true) × (segment_checks seg.now ≡ Ok tt) × (longest_listing ≤ length first.old) × (longest_listing ≤ length second.old) }
     ensures second_after { outcome result.answer (side result.slot bytes.new (cond one first.new second.new)) ≡ gathered kind seg.now (side slot bytes.old (cond one first.old second.old)) }
     ensures first_unchanged { cond one second.new first.new ≡ cond one second.old first.old }
 {
@@ -262,14 +216,14 @@ pub fn gather(
                 held: 0,
                 spoiled: true,
             },
-            answer: Answer::Refused(Refusal::Clash),
+            answer: Err(Refusal::Clash),
         };
     }
     let number = seg[1] / 16;
     if holds(slot.held, number) {
         return Gathered {
-            slot: slot,
-            answer: Answer::Missing(missing(slot)),
+            slot,
+            answer: Ok(Answer::Missing(missing(slot))),
         };
     }
     store(bytes, PAYLOAD_BYTES * number as usize, seg);
@@ -282,12 +236,9 @@ pub fn gather(
     if left != 0 {
         return Gathered {
             slot: more,
-            answer: Answer::Missing(left),
+            answer: Ok(Answer::Missing(left)),
         };
     }
     let answer = complete_to(one, kind, more, bytes, first, second);
-    Gathered {
-        slot: more,
-        answer: answer,
-    }
+    Gathered { slot: more, answer }
 }

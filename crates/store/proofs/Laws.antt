@@ -18,9 +18,8 @@ use Rattle.records.proofs.Entries.{mark_first}
 use Rattle.records.proofs.Counted.{whole_counted, counted_entry, whole_marked}
 use Rattle.packets.specs.Packets.{shortest_packet, longest_packet, Carried}
 use Rattle.packets.specs.Stored.{stored_head_bytes, stored_packet, stored}
-use Rattle.store.specs.declared.Next.{Next}
-use Rattle.store.specs.declared.Next.TheVariants.{End, Packet, Broken}
-use Rattle.store.specs.Store.{store_form, next_by, next_in, packet_by, packet_place, packet_in, Kept, kept_from, kept_up_to, kept_in}
+use Rattle.std.specs.Prelude.{Some, None, Ok, Err}
+use Rattle.store.specs.Store.{store_form, Next, next_by, next_in, packet_by, packet_place, packet_in, Kept, kept_from, kept_up_to, kept_in}
 
 -- ---- what stands at the start of a store
 
@@ -42,9 +41,9 @@ head-inside xs Cut stands w = absurd (true≢false (sym w))
 -- ---- a packet that stands there is within the limits, and inside the store
 
 abbrev Means : List ℕ → Next → Type 0
-Means xs (Packet n) = (shortest_packet ≤ n) × (n ≤ longest_packet) × (stored_head_bytes + n ≤ length xs)
-Means xs End = Unit {0}
-Means xs Broken = Unit {0}
+Means xs (Ok (Some n)) = (shortest_packet ≤ n) × (n ≤ longest_packet) × (stored_head_bytes + n ≤ length xs)
+Means xs (Ok None) = Unit {0}
+Means xs (Err b) = Unit {0}
 
 by_means : (xs : List ℕ) (e : Entry) → e ≡ entry_in store_form xs → Means xs (next_by e)
 by_means xs (EntryWhole size) stands =
@@ -54,13 +53,13 @@ by_means xs EntryEnd stands = tt
 by_means xs Unknown stands = tt
 by_means xs Cut stands = tt
 
-pub packet_means : (xs : List ℕ) (n : ℕ) → next_in xs ≡ Packet n → (shortest_packet ≤ n) × (n ≤ longest_packet) × (stored_head_bytes + n ≤ length xs)
+pub packet_means : (xs : List ℕ) (n : ℕ) → next_in xs ≡ Ok (Some n) → (shortest_packet ≤ n) × (n ≤ longest_packet) × (stored_head_bytes + n ≤ length xs)
 unfolding next_in
 packet_means xs n is = subst (Means xs) is (by_means xs (entry_in store_form xs) refl)
 
 -- ---- the packet at a place of a store, as the code takes it: its bytes, and their offset in the memory by that of the store
 
-module _ (store : List ℕ) (at n : ℕ) (stands : Packet n ≡ next_in (drop at store)) where
+module _ (store : List ℕ) (at n : ℕ) (stands : Ok (Some n) ≡ next_in (drop at store)) where
   pub packet_room : at + stored_head_bytes + n ≤ length store
   packet_room = omega (arith, (packet_means (drop at store) n (sym stands)).2, length-drop at store)
 
@@ -77,12 +76,12 @@ none_place store at offset stands none = omega (arith, ap (λ (e : Next). packet
 
 -- ---- the packets of a store, one after the other; any number above the length gives the same
 
-from_same : (e : Next) (f g : List ℕ → Kept) (xs : List ℕ) → ((n : ℕ) → e ≡ Packet n → f (drop (stored_head_bytes + n) xs) ≡ g (drop (stored_head_bytes + n) xs)) → kept_from e f xs ≡ kept_from e g xs
-from_same (Packet n) f g xs h = ap (λ (k : Kept). kept_from (Packet n) (λ (ys : List ℕ). k) xs) (h n refl)
-from_same End f g xs h = refl
-from_same Broken f g xs h = refl
+from_same : (e : Next) (f g : List ℕ → Kept) (xs : List ℕ) → ((n : ℕ) → e ≡ Ok (Some n) → f (drop (stored_head_bytes + n) xs) ≡ g (drop (stored_head_bytes + n) xs)) → kept_from e f xs ≡ kept_from e g xs
+from_same (Ok (Some n)) f g xs h = ap (λ (k : Kept). kept_from (Ok (Some n)) (λ (ys : List ℕ). k) xs) (h n refl)
+from_same (Ok None) f g xs h = refl
+from_same (Err b) f g xs h = refl
 
-left_shorter : (xs : List ℕ) (n k : ℕ) → next_in xs ≡ Packet n → length xs < suc k → length (drop (stored_head_bytes + n) xs) < k
+left_shorter : (xs : List ℕ) (n k : ℕ) → next_in xs ≡ Ok (Some n) → length xs < suc k → length (drop (stored_head_bytes + n) xs) < k
 left_shorter xs n k is h = omega (arith, (packet_means xs n is).2, length-drop (stored_head_bytes + n) xs)
 
 pub kept_any : (n m : ℕ) (xs : List ℕ) → length xs < n → length xs < m → kept_up_to n xs ≡ kept_up_to m xs
@@ -101,14 +100,14 @@ kept_next xs =
 
 -- ---- what was stored is read back
 
-pub next_stored : (p rest : List ℕ) → Carried p → next_in (stored_packet p ++ rest) ≡ Packet (length p)
+pub next_stored : (p rest : List ℕ) → Carried p → next_in (stored_packet p ++ rest) ≡ Ok (Some (length p))
 unfolding next_in
 next_stored p rest c =
     ap next_by
     (counted_entry store_form (stored_packet p ++ rest) shortest_packet longest_packet (length p) (ap store_form (mark_first _ _ (word_bytes (length p) ++ p ++ rest))) (word-high-low (length p)) c.least c.most (omega (arith, length-append p rest)))
-    ∙ ap Packet (omega arith)
+    ∙ ap (λ (n : ℕ). Ok (Some n)) (omega arith)
 
-pub stored-kept : (ps : List (List ℕ)) → Each Carried ps → kept_in (stored ps) ≡ record { packets = ps; end = End }
+pub stored-kept : (ps : List (List ℕ)) → Each Carried ps → kept_in (stored ps) ≡ record { packets = ps; end = Ok None }
 unfolding stored flat_map next_in entry_in
 stored-kept [] h = kept_next []
 stored-kept (p ∷ ps) h =

@@ -4,9 +4,8 @@ use mathlib.Core.List.{List, [], ◌∷◌, ◌++◌, map}
 use Prim.Native.Nat.{ℕ}
 use lib.ListN.{replicate}
 use Rattle.records.specs.Records.{mark_in, entry_in}
-use Rattle.store.specs.declared.Next.{Next}
-use Rattle.store.specs.declared.Next.TheVariants.{End, Packet, Broken}
-use Rattle.store.specs.Store.{next_in, next_number}
+use Rattle.std.specs.Prelude.{Some, None, Ok}
+use Rattle.store.specs.Store.{Next, broken, next_in, next_number}
 
 -- the first bytes of a store, how many zeros follow them, what stands there, and the number
 pub record Sample : Type 0 where
@@ -25,15 +24,15 @@ given s = let next = next_in (s.first ++ replicate s.follow 0) in sample s.first
 -- none; the least and the longest packet; one byte less, and one more; another mark; a mark that is cut, a length, a packet
 pub samples : List Sample
 samples =
-    sample [] 0 End 0
-    ∷ sample (0x49 ∷ 0x50 ∷ 0x00 ∷ 0x1C ∷ []) 28 (Packet 28) 0
-    ∷ sample (0x49 ∷ 0x50 ∷ 0x05 ∷ 0xDC ∷ []) 1500 (Packet 1500) 0
-    ∷ sample (0x49 ∷ 0x50 ∷ 0x00 ∷ 0x1B ∷ []) 27 Broken 15
-    ∷ sample (0x49 ∷ 0x50 ∷ 0x05 ∷ 0xDD ∷ []) 1501 Broken 15
-    ∷ sample (0x49 ∷ 0x51 ∷ 0x00 ∷ 0x1C ∷ []) 28 Broken 15
-    ∷ sample (0x49 ∷ []) 0 Broken 15
-    ∷ sample (0x49 ∷ 0x50 ∷ 0x00 ∷ []) 0 Broken 15
-    ∷ sample (0x49 ∷ 0x50 ∷ 0x00 ∷ 0x1C ∷ []) 27 Broken 15
+    sample [] 0 (Ok None) 0
+    ∷ sample (0x49 ∷ 0x50 ∷ 0x00 ∷ 0x1C ∷ []) 28 (Ok (Some 28)) 0
+    ∷ sample (0x49 ∷ 0x50 ∷ 0x05 ∷ 0xDC ∷ []) 1500 (Ok (Some 1500)) 0
+    ∷ sample (0x49 ∷ 0x50 ∷ 0x00 ∷ 0x1B ∷ []) 27 broken 15
+    ∷ sample (0x49 ∷ 0x50 ∷ 0x05 ∷ 0xDD ∷ []) 1501 broken 15
+    ∷ sample (0x49 ∷ 0x51 ∷ 0x00 ∷ 0x1C ∷ []) 28 broken 15
+    ∷ sample (0x49 ∷ []) 0 broken 15
+    ∷ sample (0x49 ∷ 0x50 ∷ 0x00 ∷ []) 0 broken 15
+    ∷ sample (0x49 ∷ 0x50 ∷ 0x00 ∷ 0x1C ∷ []) 27 broken 15
     ∷ []
 
 pub samples_hold : map given samples ≡ samples

@@ -1,135 +1,29 @@
-// A log from a reader, its transcript to a writer, in blocks. What is printed is decided by `replay`; here bytes are moved.
+// A log from a reader, its transcript to a writer, in blocks. What is printed is decided by `replay`, and `blocks` moves the bytes.
 #![tactic(auto)]
 
-ghost use Rattle.std.specs.Prelude.{T, ◌≤◌, length};
+ghost use Rattle.std.specs.Prelude.{T};
 ghost use Rattle.octets.specs.Checks.{among};
-ghost use Rattle.records.specs.Records.{entry_in};
-ghost use Rattle.records.specs.Transcripts.{filled};
-ghost use Rattle.blocks.specs.Blocks.{unread as Blocks·unread, TurnSays, Ends, run_statuses};
+ghost use Rattle.blocks.specs.Blocks.{run_statuses};
 ghost use Rattle.manners.specs.Manners.{status_of};
-ghost use Rattle.desk.specs.Desks.{desk as Desks·desk};
-ghost use Rattle.desk.specs.Calls.{state, Ready};
-ghost use Rattle.lines.specs.Lines.{longest_lines};
-ghost use Rattle.replay.specs.Log.{log_form, longest_record, log_program};
 
-use blocks::{Ended, Step, Unread};
-use desk::Desk;
 use manners::Ending;
-use meaning::LONGEST_LISTING;
-use notes::Notes;
+use replay::Replay;
+use std::io;
 use std::io::{Read, Write};
 
-// After a turn: the desk's numbers, how much was put to the output, and what is unread.
-#[derive(Clone, Copy)]
-struct Turned {
-    notes: Notes,
-    wrote: usize,
-    unread: Unread,
-}
-
-// One turn: prints the records at the start of what is unread, as many as the output has room for, and goes on behind them.
-fn turn<R: Read, W: Write>(
-    notes: Notes,
-    bytes: &mut [u8],
-    first: &mut [u8],
-    second: &mut [u8],
-    block: &mut [u8],
-    at: usize,
-    have: usize,
-    out: &mut [u8],
-    from: &mut R,
-    to: &mut W,
-) -> Turned
-    requires ready { Ready (state (Desks·desk notes bytes.old) first.old second.old) }
-    requires at_le_have { (at ≤ have) × (have ≤ length block.old) × (longest_record ≤ length block.old) }
-    ensures { TurnSays log_form (filled log_program (length out.old) (state (Desks·desk notes bytes.old) first.old second.old) (Blocks·unread block.old at have)) block.old at have out.old (state (Desks·desk result.notes bytes.new) first.new second.new) block.new out.new result.wrote result.unread }
-{
-    let f = replay::fill(notes, bytes, first, second, &block[at..have], out);
-    let after = f.notes;
-    let wrote = f.wrote;
-    let next = at + f.read;
-    let entry = replay::entry_at(&block[..have], next);
-    let sent = manners::write_out(to, &out[..wrote]);
-    let u = blocks::proceed(sent, from, block, at, next, have, entry);
-    Turned {
-        notes: after,
-        wrote: wrote,
-        unread: u,
-    }
-}
-
-// Prints the transcript of a log, from a well formed desk whose bytes are lent in place.
-fn run<R: Read, W: Write>(
-    notes: Notes,
-    bytes: &mut [u8],
-    first: &mut [u8],
-    second: &mut [u8],
-    block: &mut [u8],
-    out: &mut [u8],
-    from: &mut R,
-    to: &mut W,
-) -> Ended
-    requires ready { Ready (state (Desks·desk notes bytes.old) first.old second.old) }
-    requires longest_lines_in_bounds { (longest_lines ≤ length out.old) × (longest_record ≤ length block.old) }
-    ensures { Ends result.ending result.turns (entry_in log_form (Blocks·unread block.new result.at result.have)) out.new }
-{
-    let mut m = notes;
-    let mut at = 0;
-    let mut have = 0;
-    let mut turns = 0u64;
-    while turns < u64::MAX {
-        turns += 1;
-        let t = turn(m, bytes, first, second, block, at, have, out, from, to);
-        m = t.notes;
-        let u = t.unread;
-        at = u.at;
-        have = u.have;
-        let step = u.step;
-        if blocks::stops(step) {
-            let last = replay::entry_at(&block[..have], at);
-            return blocks::finish(step, last, turns, at, have, out, to);
-        }
-    }
-    let last = replay::entry_at(&block[..have], at);
-    blocks::finish(Step::Next, last, turns, at, have, out, to)
-}
-
-// Prints the transcript of a log, from a fresh desk.
-fn print<R: Read, W: Write>(from: &mut R, to: &mut W, block: &mut [u8]) -> Ending
-    requires { longest_record ≤ length block.old }
-    ensures { T (among run_statuses (status_of result)) }
-{
-    let fresh = Desk::fresh();
-    let notes = fresh.notes;
-    let mut bytes = fresh.bytes;
-    let mut first = [0u8; LONGEST_LISTING];
-    let mut second = [0u8; LONGEST_LISTING];
-    let mut out = [0u8; 65536];
-    let e = run(
-        notes,
-        &mut bytes,
-        &mut first,
-        &mut second,
-        block,
-        &mut out,
-        from,
-        to,
-    );
-    e.ending
-}
-
-// Prints the transcript of a log, reading it through the lent block.
+// Prints the transcript of a log, reading it through the lent block, from a fresh desk.
+// Stays: (a) a public call has no `requires`, so each size of a block has a function.
 pub fn copy<R: Read, W: Write>(from: &mut R, to: &mut W, block: &mut [u8; 65536]) -> Ending
     ensures { T (among run_statuses (status_of result)) }
 {
-    let all: &mut [u8] = block;
-    print(from, to, all)
+    let mut log = Replay::fresh();
+    blocks::print(&mut log, from, to, &mut [], &mut io::sink(), block)
 }
 
 // The same through a block that holds one segment's record and no more, as a log that comes slowly is read.
 pub fn copy_slowly<R: Read, W: Write>(from: &mut R, to: &mut W, block: &mut [u8; 39]) -> Ending
     ensures { T (among run_statuses (status_of result)) }
 {
-    let all: &mut [u8] = block;
-    print(from, to, all)
+    let mut log = Replay::fresh();
+    blocks::print(&mut log, from, to, &mut [], &mut io::sink(), block)
 }

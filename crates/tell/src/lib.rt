@@ -15,11 +15,11 @@ pub fn say_number<W: Write>(to: &mut W, n: u64) {
 
 // A refusal's number, and behind 9 its offset.
 pub fn say_refusal<W: Write>(to: &mut W, refusal: Refusal) {
-    let number = meaning::number_of(refusal);
+    let number = u8::from(refusal);
     say_number(to, number as u64);
     if number == 9 {
         say(to, b" at");
-        say_number(to, meaning::offset_of(refusal) as u64);
+        say_number(to, refusal.offset() as u64);
     }
 }
 

@@ -4,13 +4,13 @@ use mathlib.Core.List.{List, [], ◌∷◌, ◌++◌}
 use Prim.Native.Nat.{ℕ, zero, suc, ◌+◌, ◌-◌, ◌*◌, ◌/◌, ◌%◌, ◌^◌, ◌≤◌, ◌<◌}
 use native.Mathlib.Nat.{pow-suc}
 use native.Mathlib.Omega.{arith}
-use borrow.Author.Tests.{lt-ltb, le-ltb, ltb-true, ltb-false, eq-eqb, ne_eqb}
+use borrow.Author.Tests.{lt-ltb, le-ltb, ltb-true, ltb-false}
 use lib.Dec.{ltb, eqb}
 use lib.ListN.{length, set, length-append}
 use lib.Seq.{sets, length-sets, set_comm}
 use Rattle.octets.proofs.Laws.{either}
 use Rattle.octets.proofs.Stores.{sets-append}
-use Rattle.text.specs.Text.{text, newline, digit, decimal_in, decimal, numbered, offset_text, refused_with, Put}
+use Rattle.text.specs.Text.{newline, digit, decimal_in, decimal, numbered, offset_text, refused_with, Put}
 
 -- ---- what is put at a place
 
@@ -71,6 +71,11 @@ length-decimal (suc k) n h =
     either (ltb n 10) (λ t. omega (arith, length_small n (ltb-true n 10 t)))
     (λ t. omega (arith, length_large n (ltb-false n 10 t), length-decimal k (n / 10) (tenth_less k n h)))
 
+-- as many digits as its powers of ten say
+pub length_power : (k n : ℕ) → 10 ^ k ≤ n → n < 10 * 10 ^ k → length (decimal n) ≡ k + 1
+length_power zero n g h = length_small n (omega arith)
+length_power (suc k) n g h = omega (arith, pow-suc 10 k, length_large n (omega (arith, pow-suc 10 k)), length_power k (n / 10) (omega (arith, pow-suc 10 k)) (omega (arith, pow-suc 10 k)))
+
 -- as many digits as a number of 64 bits can have
 pub length_wide : (n : ℕ) → n < 2 ^ 64 → length (decimal n) ≤ 20
 length_wide n h = length-decimal 19 n (omega arith)
@@ -113,28 +118,47 @@ decimal-once m n e = sym (value-decimal_in (suc m) m (omega arith)) ∙ ap (valu
 
 -- ---- a number from the last digit to the first: what is left, put at the place, with the digits behind it
 
-pub digit_last : (n to : ℕ) (l : List ℕ) → n < 10 → set l to (digit n) ≡ sets l to (decimal n)
-digit_last n to l h = ap (sets l to) (sym (decimal_small n h))
-
 pub digit_only : (n to : ℕ) (l : List ℕ) → n < 10 → Put (decimal n) l to (set l to (digit n)) (to + 1)
-digit_only n to l h = (omega (arith, length_small n h), digit_last n to l h)
+digit_only n to l h = (omega (arith, length_small n h), ap (sets l to) (sym (decimal_small n h)))
 
-pub digit_next : (n to at : ℕ) (l : List ℕ) → 10 ≤ n → at ≡ to + length (decimal n) → sets (set l (at - 1) (digit (n % 10))) to (decimal (n / 10)) ≡ sets l to (decimal n)
-digit_next n to at l h e =
-    let place : at - 1 ≡ to + length (decimal (n / 10)) = omega (arith, length_large n h) in
-    rw (place, decimal_large n h)
-    (sets_set (decimal (n / 10)) l to (to + length (decimal (n / 10))) (digit (n % 10)) (omega arith)
-    ∙ sym (sets-append (decimal (n / 10)) (digit (n % 10) ∷ []) l to))
+-- the k last digits of n
+unfoldable pub last_digits : ℕ → ℕ → List ℕ
+last_digits zero n = []
+last_digits (suc k) n = last_digits k (n / 10) ++ (digit (n % 10) ∷ [])
+
+length-last_digits : (k n : ℕ) → length (last_digits k n) ≡ k
+unfolding last_digits
+length-last_digits zero n = refl
+length-last_digits (suc k) n = omega (arith, length-append (last_digits k (n / 10)) (digit (n % 10) ∷ []), length-last_digits k (n / 10))
+
+-- as many as there are
+pub last_digits_all : (k n : ℕ) → k ≡ length (decimal n) → last_digits k n ≡ decimal n
+unfolding last_digits
+last_digits_all zero n e = either (ltb n 10) (λ t. absurd (omega (arith, length_small n (ltb-true n 10 t)))) (λ t. absurd (omega (arith, length_large n (ltb-false n 10 t))))
+last_digits_all (suc k) n e =
+    either (ltb n 10)
+    (λ t.
+    let small : n < 10 = ltb-true n 10 t in
+    let one : k ≡ 0 = omega (arith, length_small n small) in
+    let same : n % 10 ≡ n = omega arith in
+    rw (one, same, decimal_small n small))
+    (λ t.
+    let large : 10 ≤ n = ltb-false n 10 t in
+    with_last n (last_digits_all k (n / 10) (omega (arith, length_large n large))) ∙ sym (decimal_large n large))
+
+pub digit_next : (n to at : ℕ) (l : List ℕ) → to < at → sets (set l (at - 1) (digit (n % 10))) to (last_digits (at - 1 - to) (n / 10)) ≡ sets l to (last_digits (at - to) n)
+unfolding last_digits
+digit_next n to at l h =
+    let more : at - to ≡ suc (at - 1 - to) = omega arith in
+    let place : at - 1 ≡ to + length (last_digits (at - 1 - to) (n / 10)) = omega (arith, length-last_digits (at - 1 - to) (n / 10)) in
+    rw more
+    (sets_set (last_digits (at - 1 - to) (n / 10)) l to (at - 1) (digit (n % 10)) (omega arith)
+    ∙ ap (λ (k : ℕ). set (sets l to (last_digits (at - 1 - to) (n / 10))) k (digit (n % 10))) place
+    ∙ sym (sets-append (last_digits (at - 1 - to) (n / 10)) (digit (n % 10) ∷ []) l to))
 
 -- ---- a refusal
 
 module _ (telling number at : ℕ) where
-  pub offset_none : (number ≡ telling → ⊥) → [] ≡ offset_text telling number at
-  offset_none h = rw (ne_eqb number telling h)
-
-  pub offset_some : number ≡ telling → text " at " ++ decimal at ≡ offset_text telling number at
-  offset_some e = rw (eq-eqb number telling e)
-
   pub length-offset : at < 2 ^ 64 → length (offset_text telling number at) ≤ 24
   length-offset h = either (eqb number telling) (λ q. simp q (omega (arith, length_wide at h))) (λ q. simp q (omega arith))
 

@@ -11,25 +11,9 @@ pub fn put_text(word: &[u8], out: &mut [u8], to: usize) -> usize
     requires { to + length word.now ≤ length out.old }
     ensures { Put word.now out.old to out.new result }
 {
-    let mut i = 0;
-    while i < word.len() {
-        out[to + i] = word[i];
-        i += 1;
-    }
-    to + i
-}
-
-// How many digits a number has.
-fn places(n: u64) -> usize
-    ensures { result ≡ length (decimal n) }
-{
-    let mut count = 1;
-    let mut rest = n;
-    while 10 <= rest {
-        rest = rest / 10;
-        count += 1;
-    }
-    count
+    let end = to + word.len();
+    out[to..end].copy_from_slice(word);
+    end
 }
 
 // Puts the count digits of a number, from the last to the first.
@@ -37,14 +21,11 @@ fn put_digits(n: u64, count: usize, out: &mut [u8], to: usize)
     requires { (count ≡ length (decimal n)) × (to + count ≤ length out.old) }
     ensures { out.new ≡ sets out.old to (decimal n) }
 {
-    let mut at = to + count;
     let mut rest = n;
-    while 10 <= rest {
-        at -= 1;
+    for at in (to..to + count).rev() {
         out[at] = b'0' + (rest % 10) as u8;
-        rest = rest / 10;
+        rest /= 10;
     }
-    out[to] = b'0' + rest as u8;
 }
 
 // Puts a number in decimal.
@@ -57,7 +38,7 @@ pub fn put_number(n: u64, out: &mut [u8], to: usize) -> usize
         out[to] = b'0' + n as u8;
         return to + 1;
     }
-    let count = places(n);
+    let count = n.ilog10() as usize + 1;
     put_digits(n, count, out, to);
     to + count
 }

@@ -14,7 +14,9 @@ use Rattle.rtp.specs.Header.{header_bytes, marker_in, sequence_in, payload_in}
 use Rattle.packets.specs.Packets.{start_of, is_running}
 use Rattle.packets.specs.Stored.{stored}
 use Rattle.tunnel.specs.declared.Numbers.{Numbers}
-use Rattle.tunnel.specs.declared.Unwrapped.TheVariants.{Stored, BadOffset}
+use Rattle.std.specs.Prelude.{Some, Ok, Err}
+use Rattle.tunnel.specs.declared.Unwrapped.TheVariants.{Stored}
+use Rattle.tunnel.specs.declared.Refusal.TheVariants.{BadOffset}
 use Rattle.tunnel.specs.Outer.{offset_in}
 use Rattle.tunnel.specs.Unwrap.{Reader, reader, part_of, Found, found_at, gap_before, marked, gap, kept, found, accepted, AcceptSays, Gains}
 use Rattle.tunnel.proofs.Found.{at_weight}
@@ -71,14 +73,14 @@ module _ (m : Numbers) (part outer out : List ℕ) (sequence gap' held : ℕ) (m
 
   -- ---- 17
 
-  pub accept_drops : header_bytes ≤ length outer → (marked' && leb (length outer) start) ≡ true → AcceptSays m part outer out (BadOffset gap' (held + (length outer - header_bytes))) (record { begun = true; last = sequence; held = 0 }) part out
+  pub accept_drops : header_bytes ≤ length outer → (marked' && leb (length outer) start) ≡ true → AcceptSays m part outer out (Err (BadOffset gap' (held + (length outer - header_bytes)))) (record { last = Some sequence; held = 0 }) part out
   unfolding accepted
   accept_drops long t =
       let e : (marked r outer out && leb (length (payload_in outer)) (offset_in outer)) ≡ true = outside long ∙ t in
       rw e (
       record {
-        answers = ap₂ BadOffset gap_same (ap₂ ◌+◌ n.held_is (sym (length-drop header_bytes outer)));
-        holds = ap (λ (k : ℕ). reader (record { begun = true; last = k; held = 0 }) part) n.sequence_is;
+        answers = ap₂ (λ (g l : ℕ). Err (BadOffset g l)) gap_same (ap₂ ◌+◌ n.held_is (sym (length-drop header_bytes outer)));
+        holds = ap (λ (k : ℕ). reader (record { last = Some k; held = 0 }) part) n.sequence_is;
         leaves = refl;
       })
 
@@ -133,7 +135,7 @@ module _ (m : Numbers) (part outer out : List ℕ) (sequence gap' held : ℕ) (m
         lost_most =
             omega (arith, g.4, at_weight marked' (start - header_bytes) (take keep part) (payload_in outer), length-drop header_bytes outer, length-take-le keep part (omega (arith, kept_most, held_inside)), kept_most)
 
-        pub accept_reads : AcceptSays m part outer out (Stored end gap' (held - keep + lost)) (record { begun = true; last = sequence; held = more }) part' out'
+        pub accept_reads : AcceptSays m part outer out (Ok (Stored end gap' (held - keep + lost))) (record { last = Some sequence; held = more }) part' out'
         unfolding accepted
         accept_reads =
             let e : (marked r outer out && leb (length (payload_in outer)) (offset_in outer)) ≡ false = outside long ∙ here in
@@ -142,8 +144,8 @@ module _ (m : Numbers) (part outer out : List ℕ) (sequence gap' held : ℕ) (m
             rw e (
             record {
               answers =
-                  (λ i. Stored ((h.0 ∙ zero-add (length (stored f.packets))) i) (gap_same i) (n.held_is i - kept-length i + h.4 i));
+                  (λ i. Ok (Stored ((h.0 ∙ zero-add (length (stored f.packets))) i) (gap_same i) (n.held_is i - kept-length i + h.4 i)));
               holds =
-                  (λ i. reader (record { begun = true; last = n.sequence_is i; held = h.2 i }) (h.3 i));
+                  (λ i. reader (record { last = Some (n.sequence_is i); held = h.2 i }) (h.3 i));
               leaves = h.1;
             })

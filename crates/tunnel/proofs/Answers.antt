@@ -10,10 +10,11 @@ use Rattle.octets.proofs.Laws.{either}
 use Rattle.rtp.specs.Header.{header_bytes, sequence_in}
 use Rattle.rtp.proofs.Laws.{plain-short}
 use Rattle.tunnel.specs.declared.Numbers.{Numbers}
-use Rattle.tunnel.specs.declared.Unwrapped.{Unwrapped}
-use Rattle.tunnel.specs.declared.Unwrapped.TheVariants.{Repeat, ShortOutput, Foreign}
+use Rattle.std.specs.Prelude.{Ok, Err}
+use Rattle.tunnel.specs.declared.Unwrapped.TheVariants.{Repeat}
+use Rattle.tunnel.specs.declared.Refusal.TheVariants.{ShortOutput, Foreign}
 use Rattle.tunnel.specs.Outer.{stltp, longest_outer, is_outer}
-use Rattle.tunnel.specs.Unwrap.{shortest_output, Reader, reader, is_repeat, unchanged, accepted, unwrapped, UnwrapSays, AcceptSays}
+use Rattle.tunnel.specs.Unwrap.{shortest_output, Answer, Reader, reader, is_repeat, unchanged, accepted, unwrapped, UnwrapSays, AcceptSays}
 use Rattle.tunnel.proofs.Laws.{outer_long, outer-plain}
 
 -- an outer packet of the tunnel has a header and is not too long
@@ -29,17 +30,17 @@ outer-inside xs is =
 -- ---- what a call comes to
 
 module _ (r : Reader) (outer output : List ℕ) where
-  pub comes_short : length output < shortest_output → unwrapped r outer output ≡ unchanged r outer output ShortOutput
+  pub comes_short : length output < shortest_output → unwrapped r outer output ≡ unchanged r outer output (Err ShortOutput)
   unfolding unwrapped
   comes_short h = rw (lt-ltb (length output) shortest_output h) refl
 
   module _ (long : shortest_output ≤ length output) where
-    pub comes_foreign : is_outer outer ≡ false → unwrapped r outer output ≡ unchanged r outer output Foreign
+    pub comes_foreign : is_outer outer ≡ false → unwrapped r outer output ≡ unchanged r outer output (Err Foreign)
     unfolding unwrapped
     comes_foreign e = rw (le-ltb (length output) shortest_output long, e) refl
 
     module _ (ours : is_outer outer ≡ true) where
-      pub comes_repeat : is_repeat r.numbers (sequence_in outer) ≡ true → unwrapped r outer output ≡ unchanged r outer output Repeat
+      pub comes_repeat : is_repeat r.numbers (sequence_in outer) ≡ true → unwrapped r outer output ≡ unchanged r outer output (Ok Repeat)
       unfolding unwrapped
       comes_repeat e = rw (le-ltb (length output) shortest_output long, ours, e) refl
 
@@ -50,8 +51,8 @@ module _ (r : Reader) (outer output : List ℕ) where
 -- ---- what the code says of it
 
 module _ (m : Numbers) (part outer out : List ℕ) where
-  pub says_unchanged : {a : Unwrapped} → unwrapped (reader m part) outer out ≡ unchanged (reader m part) outer out a → UnwrapSays m part outer out a m part out
+  pub says_unchanged : {a : Answer} → unwrapped (reader m part) outer out ≡ unchanged (reader m part) outer out a → UnwrapSays m part outer out a m part out
   says_unchanged e = rw e (record { answers = refl; holds = refl; leaves = refl })
 
-  pub says_accepted : {a : Unwrapped} {m' : Numbers} {part' out' : List ℕ} → unwrapped (reader m part) outer out ≡ accepted (reader m part) outer out → AcceptSays m part outer out a m' part' out' → UnwrapSays m part outer out a m' part' out'
+  pub says_accepted : {a : Answer} {m' : Numbers} {part' out' : List ℕ} → unwrapped (reader m part) outer out ≡ accepted (reader m part) outer out → AcceptSays m part outer out a m' part' out' → UnwrapSays m part outer out a m' part' out'
   says_accepted e s = rw e s

@@ -16,6 +16,7 @@ use Rattle.packets.specs.declared.Start.TheVariants.{Running, Whole, Fault}
 use Rattle.packets.specs.Packets.{longest_packet, telling_bytes, total_length, start_by, start_of}
 use Rattle.packets.specs.Stored.{stored_head, stored_head_bytes, stored_packet, stored}
 use Rattle.packets.proofs.Laws.{early, means}
+use Rattle.std.specs.Prelude.{Some, None}
 use Rattle.tunnel.specs.declared.Numbers.{Numbers}
 use Rattle.tunnel.specs.Outer.{stltp, longest_outer, is_outer}
 use Rattle.tunnel.specs.Unwrap.{reader, part_of, gap_before, Found, one_in, part_in, thrown, runs_on, found_before, Gains}
@@ -31,13 +32,15 @@ outer-plain xs h = simp (le-ltb longest_outer (length xs) h)
 -- ---- the sequence number
 
 module _ (m : Numbers) (sequence : ℕ) where
-  pub gap-fresh : m.begun ≡ false → gap_before m sequence ≡ 0
+  pub gap-fresh : m.last ≡ None → 0 ≡ gap_before m sequence
   unfolding gap_before
   gap-fresh e = rw e refl
 
-  pub gap_begun : m.begun ≡ true → gap_before m sequence ≡ (sequence + sequences - (m.last + 1) % sequences) % sequences
+  pub gap_begun : (last : ℕ) → m.last ≡ Some last → (sequence + (sequences - (last + 1) % sequences)) % sequences ≡ gap_before m sequence
   unfolding gap_before
-  gap_begun e = rw e refl
+  gap_begun last e =
+      let whole : sequence + (sequences - (last + 1) % sequences) ≡ sequence + sequences - (last + 1) % sequences = omega arith in
+      rw e (ap (λ (n : ℕ). n % sequences) whole)
 
 -- ---- the part that is held
 

@@ -21,10 +21,11 @@ use Rattle.packets.specs.Packets.{longest_packet, Carried, start_of, is_running}
 use Rattle.packets.specs.Stored.{stored_head_bytes, stored_packet, stored, line}
 use Rattle.packets.proofs.Laws.{means}
 use Rattle.tunnel.specs.declared.Numbers.{Numbers}
-use Rattle.tunnel.specs.declared.Unwrapped.{Unwrapped}
-use Rattle.tunnel.specs.declared.Unwrapped.TheVariants.{Repeat, ShortOutput, Foreign}
+use Rattle.std.specs.Prelude.{Option, Some, None, Ok, Err}
+use Rattle.tunnel.specs.declared.Unwrapped.TheVariants.{Repeat}
+use Rattle.tunnel.specs.declared.Refusal.TheVariants.{ShortOutput, Foreign}
 use Rattle.tunnel.specs.Outer.{longest_outer, offset_in, is_outer}
-use Rattle.tunnel.specs.Unwrap.{shortest_output, most_stored, Reader, part_of, Found, found_in, found_before, found_at, unwrapped_values, is_repeat, gap_before, marked, gap, kept, found, holding, unchanged, dropped, read, accepted, unwrapped, Result, reader, Leaves}
+use Rattle.tunnel.specs.Unwrap.{shortest_output, most_stored, Answer, Reader, part_of, Found, found_in, found_before, found_at, unwrapped_values, is_repeat, gap_behind, gap_before, marked, gap, kept, found, holding, unchanged, dropped, read, accepted, unwrapped, Result, reader, Leaves}
 use Rattle.tunnel.proofs.Found.{before_cases, start-nothing, at_weight, at_carried, at_part, stored-append}
 use Rattle.tunnel.proofs.Behind.{found_stored}
 use Rattle.tunnel.proofs.Answers.{outer-inside, comes_short, comes_foreign, comes_repeat, comes_accepted}
@@ -56,14 +57,14 @@ module _ (r : Reader) (outer output : List ℕ) where
     pub new : is_repeat r.numbers (sequence_in outer) ≡ false
 
   -- an answer that changes nothing
-  abbrev pub Idle : Unwrapped → Type 0
-  Idle a = (a ≡ ShortOutput) ⊎ ((a ≡ Foreign) ⊎ (a ≡ Repeat))
+  abbrev pub Idle : Answer → Type 0
+  Idle a = (a ≡ Err ShortOutput) ⊎ ((a ≡ Err Foreign) ⊎ (a ≡ Ok Repeat))
 
   -- the marked start lies in the payload
   abbrev pub Inside : Type 0
   Inside = marked r outer output ≡ true → offset_in outer < length (payload_in outer)
 
-  module _ (P : Result → Type 0) (idle : (a : Unwrapped) → Idle a → P (unchanged r outer output a)) (drops : Taken → P (dropped r outer output)) (reads : Taken → Inside → P (read r outer output)) where
+  module _ (P : Result → Type 0) (idle : (a : Answer) → Idle a → P (unchanged r outer output a)) (drops : Taken → P (dropped r outer output)) (reads : Taken → Inside → P (read r outer output)) where
     accepted_cases : Taken → P (accepted r outer output)
     unfolding accepted
     accepted_cases t =
@@ -78,15 +79,15 @@ module _ (r : Reader) (outer output : List ℕ) where
     pub result_cases : P (unwrapped r outer output)
     result_cases =
         either (ltb (length output) shortest_output)
-        (λ e. rw (comes_short r outer output (ltb-true (length output) shortest_output e)) (idle ShortOutput (inl refl)))
+        (λ e. rw (comes_short r outer output (ltb-true (length output) shortest_output e)) (idle (Err ShortOutput) (inl refl)))
         (λ e.
         let long : shortest_output ≤ length output = ltb-false (length output) shortest_output e in
         either (is_outer outer)
         (λ ours.
         either (is_repeat r.numbers (sequence_in outer))
-        (λ rep. rw (comes_repeat r outer output long ours rep) (idle Repeat (inr (inr refl))))
+        (λ rep. rw (comes_repeat r outer output long ours rep) (idle (Ok Repeat) (inr (inr refl))))
         (λ new. rw (comes_accepted r outer output long ours new) (accepted_cases (record { long = long; ours = ours; new = new }))))
-        (λ other. rw (comes_foreign r outer output long other) (idle Foreign (inr (inl refl)))))
+        (λ other. rw (comes_foreign r outer output long other) (idle (Err Foreign) (inr (inl refl)))))
 
   -- ---- a payload that is read
 
@@ -149,9 +150,13 @@ module _ (r : Reader) (outer output : List ℕ) where
 module _ (r : Reader) (outer output : List ℕ) where
   gap_small : gap_before r.numbers (sequence_in outer) < sequences
   unfolding gap_before
-  gap_small = either r.numbers.begun (λ e. rw e (omega arith)) (λ e. rw e (omega arith))
+  gap_small = go r.numbers.last
+    where
+      go : (last : Option ℕ) → gap_behind last (sequence_in outer) < sequences
+      go (Some last) = omega arith
+      go None = omega arith
 
-  idle-values : (a : Unwrapped) → Idle r outer output a → ((unwrapped_values a).stored ≡ 0) × ((unwrapped_values a).gap ≡ 0) × ((unwrapped_values a).lost ≡ 0)
+  idle-values : (a : Answer) → Idle r outer output a → ((unwrapped_values a).stored ≡ 0) × ((unwrapped_values a).gap ≡ 0) × ((unwrapped_values a).lost ≡ 0)
   idle-values a (inl e) = rw e (refl, refl, refl)
   idle-values a (inr (inl e)) = rw e (refl, refl, refl)
   idle-values a (inr (inr e)) = rw e (refl, refl, refl)
@@ -229,7 +234,7 @@ pub number_exactly : (r : Reader) (outer output : List ℕ) → (unwrapped_value
 unfolding unwrapped accepted
 number_exactly r outer output = go (ltb (length output) shortest_output) (is_outer outer) (is_repeat r.numbers (sequence_in outer)) (marked r outer output && leb (length (payload_in outer)) (offset_in outer))
   where
-    go : (a b c d : Bool) → (unwrapped_values (check a (unchanged r outer output ShortOutput) (check (not b) (unchanged r outer output Foreign) (check c (unchanged r outer output Repeat) (check d (dropped r outer output) (read r outer output))))).answer).number ≡ check a 1 (check (not b) 16 (check c 0 (check d 17 0)))
+    go : (a b c d : Bool) → (unwrapped_values (check a (unchanged r outer output (Err ShortOutput)) (check (not b) (unchanged r outer output (Err Foreign)) (check c (unchanged r outer output (Ok Repeat)) (check d (dropped r outer output) (read r outer output))))).answer).number ≡ check a 1 (check (not b) 16 (check c 0 (check d 17 0)))
     go true b c d = refl
     go false false c d = refl
     go false true true d = refl
@@ -237,5 +242,5 @@ number_exactly r outer output = go (ltb (length output) shortest_output) (is_out
     go false true false false = refl
 
 -- two results can't both meet the promise
-pub one_result : {u : Result} {a b : Unwrapped} {m n : Numbers} {part part' out out' : List ℕ} → Leaves u a m part out → Leaves u b n part' out' → (a ≡ b) × (reader m part ≡ reader n part') × (out ≡ out')
+pub one_result : {u : Result} {a b : Answer} {m n : Numbers} {part part' out out' : List ℕ} → Leaves u a m part out → Leaves u b n part' out' → (a ≡ b) × (reader m part ≡ reader n part') × (out ≡ out')
 one_result s t = (s.answers ∙ sym t.answers, s.holds ∙ sym t.holds, s.leaves ∙ sym t.leaves)

@@ -1,6 +1,6 @@
 -- The rules of the request on small outer packets, by computation: what the answer says. Assumes nothing.
 use mathlib.Core.Path.{◌≡◌, refl}
-use mathlib.Core.Bool.{Bool, true, false}
+use mathlib.Core.Bool.{true, false}
 use mathlib.Core.List.{List, [], ◌∷◌, ◌++◌, map, flat_map}
 use Prim.Native.Nat.{ℕ, ◌+◌, ◌*◌}
 use lib.ListN.{replicate}
@@ -8,6 +8,7 @@ use Rattle.octets.specs.Word.{word_bytes}
 use Rattle.rtp.specs.Header.{is_plain}
 use Rattle.packets.specs.Packets.{start_of}
 use Rattle.packets.specs.Stored.{stored}
+use Rattle.std.specs.Prelude.{Option, Some, None}
 use Rattle.tunnel.specs.declared.Values.{Values}
 use Rattle.tunnel.specs.Unwrap.{reader, found_up_to, found_in, found_before, found_at, values, unwrapped_values, gap_before, accepted, unwrapped}
 
@@ -23,37 +24,37 @@ small = packet 4 28 24
 outer : ℕ → ℕ → ℕ → List ℕ → List ℕ
 outer second sequence offset payload = 128 ∷ second ∷ (word_bytes sequence ++ (replicate 6 255 ++ (word_bytes offset ++ payload)))
 
--- a reader that accepted the number 65,535 and holds so many bytes of a small packet; what it answers
+-- a reader that accepted none or the number 65,535 and holds so many bytes of a small packet; what it answers
 pub record Sample : Type 0 where
-  pub begun : Bool
+  pub last : Option ℕ
   pub held : ℕ
   pub packet : List ℕ
   pub says : Values
 
-sample : Bool → ℕ → List ℕ → Values → Sample
-sample begun held packet says = record { begun = begun; held = held; packet = packet; says = says }
+sample : Option ℕ → ℕ → List ℕ → Values → Sample
+sample last held packet says = record { last = last; held = held; packet = packet; says = says }
 
 pub given : Sample → Sample
 given s =
-    sample s.begun s.held s.packet
-    (unwrapped_values (unwrapped (reader (record { begun = s.begun; last = 65535; held = s.held }) small) s.packet (replicate 4096 0)).answer)
+    sample s.last s.held s.packet
+    (unwrapped_values (unwrapped (reader (record { last = s.last; held = s.held }) small) s.packet (replicate 4096 0)).answer)
 
 pub samples : List Sample
 samples =
-    sample false 0 (outer 225 7 0 small) (values 0 false 32 0 0)  -- a marked packet
-    ∷ sample false 0 (outer 97 7 0 small) (values 0 false 0 0 28)  -- not marked: nothing runs
-    ∷ sample false 0 (outer 225 7 0 (packet 6 28 24)) (values 0 false 0 0 28)  -- another first half byte
-    ∷ sample false 0 (outer 225 7 0 (packet 4 27 24)) (values 0 false 0 0 28)  -- a length outside the limits
-    ∷ sample false 0 (outer 224 7 0 small) (values 16 false 0 0 0)  -- another payload type
-    ∷ sample false 0 (outer 225 7 28 small) (values 17 false 0 0 28)  -- the marked start at the end
-    ∷ sample true 10 (outer 225 65535 0 small) (values 0 true 0 0 0)  -- a repeat
-    ∷ sample true 10 (outer 97 0 9 (replicate 18 0)) (values 0 false 32 0 0)  -- over the wrap: the part ends with the payload
-    ∷ sample true 10 (outer 97 0 9 (replicate 19 0)) (values 0 false 0 0 29)  -- a byte too many without a marker
-    ∷ sample true 10 (outer 225 0 18 (replicate 18 0 ++ small)) (values 0 false 64 0 0)  -- it ends where the marker says
-    ∷ sample true 10 (outer 225 0 17 (replicate 17 0 ++ small)) (values 0 false 32 0 27)  -- the marker contradicts it
-    ∷ sample true 10 (outer 225 2 18 (replicate 18 0 ++ small)) (values 0 false 32 2 28)  -- behind a gap
-    ∷ sample true 10 (outer 225 2 46 (replicate 18 0 ++ small)) (values 17 false 0 2 56)
-    ∷ sample true 28 (outer 97 0 0 []) (values 0 false 0 0 0)  -- a state that no calls make
+    sample None 0 (outer 225 7 0 small) (values 0 false 32 0 0)  -- a marked packet
+    ∷ sample None 0 (outer 97 7 0 small) (values 0 false 0 0 28)  -- not marked: nothing runs
+    ∷ sample None 0 (outer 225 7 0 (packet 6 28 24)) (values 0 false 0 0 28)  -- another first half byte
+    ∷ sample None 0 (outer 225 7 0 (packet 4 27 24)) (values 0 false 0 0 28)  -- a length outside the limits
+    ∷ sample None 0 (outer 224 7 0 small) (values 16 false 0 0 0)  -- another payload type
+    ∷ sample None 0 (outer 225 7 28 small) (values 17 false 0 0 28)  -- the marked start at the end
+    ∷ sample (Some 65535) 10 (outer 225 65535 0 small) (values 0 true 0 0 0)  -- a repeat
+    ∷ sample (Some 65535) 10 (outer 97 0 9 (replicate 18 0)) (values 0 false 32 0 0)  -- over the wrap: the part ends with the payload
+    ∷ sample (Some 65535) 10 (outer 97 0 9 (replicate 19 0)) (values 0 false 0 0 29)  -- a byte too many without a marker
+    ∷ sample (Some 65535) 10 (outer 225 0 18 (replicate 18 0 ++ small)) (values 0 false 64 0 0)  -- it ends where the marker says
+    ∷ sample (Some 65535) 10 (outer 225 0 17 (replicate 17 0 ++ small)) (values 0 false 32 0 27)  -- the marker contradicts it
+    ∷ sample (Some 65535) 10 (outer 225 2 18 (replicate 18 0 ++ small)) (values 0 false 32 2 28)  -- behind a gap
+    ∷ sample (Some 65535) 10 (outer 225 2 46 (replicate 18 0 ++ small)) (values 17 false 0 2 56)
+    ∷ sample (Some 65535) 28 (outer 97 0 0 []) (values 0 false 0 0 0)  -- a state that no calls make
     ∷ []
 
 pub samples_hold : map given samples ≡ samples

@@ -1,5 +1,6 @@
 -- The tunnel's reader: its state, one outer packet, and what that leaves.
-use Rattle.std.specs.Prelude.{ℕ, zero, suc, ◌+◌, ◌-◌, ◌%◌, ◌≡◌, Bool, true, false, not, cond, ◌&&◌, List, [], ◌∷◌, ◌++◌, ltb, leb, eqb, length, take, drop}
+use Rattle.std.specs.Prelude.{ℕ, zero, suc, ◌+◌, ◌-◌, ◌%◌, ◌≡◌, Bool, true, false, not, cond, ◌&&◌, List, [], ◌∷◌, ◌++◌, ltb, leb, eqb, length, take, drop, Option, Some, None, Result as ResultOf, Ok, Err}
+use Rattle.std.specs.Option.{option_eq}
 use Rattle.std.proofs.lemmas.List.Edits.{sets}
 use Rattle.octets.specs.Checks.{check}
 use Rattle.rtp.specs.Header.{sequences, marker_in, sequence_in, payload_in}
@@ -9,7 +10,9 @@ use Rattle.packets.specs.Packets.{start_of, is_running}
 use Rattle.packets.specs.Stored.{stored}
 use Rattle.tunnel.specs.declared.Numbers.{Numbers}
 use Rattle.tunnel.specs.declared.Unwrapped.{Unwrapped}
-use Rattle.tunnel.specs.declared.Unwrapped.TheVariants.{Stored, Repeat, ShortOutput, Foreign, BadOffset}
+use Rattle.tunnel.specs.declared.Unwrapped.TheVariants.{Stored, Repeat}
+use Rattle.tunnel.specs.declared.Refusal.{Refusal}
+use Rattle.tunnel.specs.declared.Refusal.TheVariants.{ShortOutput, Foreign, BadOffset}
 use Rattle.tunnel.specs.declared.Values.{Values}
 use Rattle.tunnel.specs.Outer.{offset_in, is_outer}
 
@@ -21,7 +24,7 @@ shortest_output = 4096
 abbrev pub most_stored : ℕ
 most_stored = 3203
 
--- ---- the state: whether a packet was accepted, its sequence number, how many bytes of a part packet are held; and the memory with these bytes
+-- ---- the state: the sequence number of the last accepted packet, none at first, how many bytes of a part packet are held; and the memory with these bytes
 
 pub record Reader : Type 0 where
   pub numbers : Numbers
@@ -32,7 +35,7 @@ reader numbers bytes = record { numbers = numbers; bytes = bytes }
 
 -- a fresh reader's
 abbrev pub fresh_numbers : Numbers
-fresh_numbers = record { begun = false; last = 0; held = 0 }
+fresh_numbers = record { last = None; held = 0 }
 
 -- the part that it holds: the bytes held, where they are the start of a packet that is running; else none
 abbrev pub part_of : Reader → List ℕ
@@ -96,12 +99,25 @@ found_behind marked offset part payload = found_at marked (cond marked offset (l
 abbrev pub values : ℕ → Bool → ℕ → ℕ → ℕ → Values
 values number repeat stored gap lost = record { number = number; repeat = repeat; stored = stored; gap = gap; lost = lost }
 
-abbrev pub unwrapped_values : Unwrapped → Values
-unwrapped_values (Stored n gap lost) = values 0 false n gap lost
-unwrapped_values Repeat = values 0 true 0 0 0
-unwrapped_values ShortOutput = values 1 false 0 0 0
-unwrapped_values Foreign = values 16 false 0 0 0
-unwrapped_values (BadOffset gap lost) = values 17 false 0 gap lost
+-- the reader's answer, or a refusal
+abbrev pub Answer : Type 0
+Answer = ResultOf Unwrapped Refusal
+
+abbrev pub refusal_number : Refusal → ℕ
+refusal_number ShortOutput = 1
+refusal_number Foreign = 16
+refusal_number (BadOffset gap lost) = 17
+
+-- what a refusal with this number says
+abbrev refused_values : ℕ → Refusal → Values
+refused_values number ShortOutput = values number false 0 0 0
+refused_values number Foreign = values number false 0 0 0
+refused_values number (BadOffset gap lost) = values number false 0 gap lost
+
+abbrev pub unwrapped_values : Answer → Values
+unwrapped_values (Ok (Stored n gap lost)) = values 0 false n gap lost
+unwrapped_values (Ok Repeat) = values 0 true 0 0 0
+unwrapped_values (Err refusal) = refused_values (refusal_number refusal) refusal
 
 -- ---- the sequence number
 
@@ -110,16 +126,20 @@ next_number n = (n + 1) % sequences
 
 -- the last accepted one comes again
 abbrev pub is_repeat : Numbers → ℕ → Bool
-is_repeat m sequence = m.begun && eqb sequence m.last
+is_repeat m sequence = option_eq eqb m.last (Some sequence)
 
 -- how many outer packets are left out before this one; a fresh reader takes any
+abbrev pub gap_behind : Option ℕ → ℕ → ℕ
+gap_behind (Some last) sequence = (sequence + sequences - next_number last) % sequences
+gap_behind None sequence = 0
+
 unfoldable pub gap_before : Numbers → ℕ → ℕ
-gap_before m sequence = cond m.begun ((sequence + sequences - next_number m.last) % sequences) 0
+gap_before m sequence = gap_behind m.last sequence
 
 -- ---- the public call, on a state, an outer packet and a lent output: the answer, and both afterwards
 
 pub record Result : Type 0 where
-  pub answer : Unwrapped
+  pub answer : Answer
   pub reader : Reader
   pub output : List ℕ
 
@@ -139,19 +159,19 @@ module _ (r : Reader) (outer output : List ℕ) where
 
   -- the sequence number is accepted, and this part held at the start of its memory
   abbrev pub holding : List ℕ → Reader
-  holding part = record { numbers = record { begun = true; last = sequence_in outer; held = length part }; bytes = sets r.bytes 0 part }
+  holding part = record { numbers = record { last = Some (sequence_in outer); held = length part }; bytes = sets r.bytes 0 part }
 
-  abbrev pub unchanged : Unwrapped → Result
+  abbrev pub unchanged : Answer → Result
   unchanged answer = record { answer = answer; reader = r; output = output }
 
   abbrev pub dropped : Result
-  dropped = record { answer = BadOffset gap (length (part_of r) + length (payload_in outer)); reader = holding []; output = output }
+  dropped = record { answer = Err (BadOffset gap (length (part_of r) + length (payload_in outer))); reader = holding []; output = output }
 
   abbrev pub read : Result
   read =
       let packets = stored found.packets in
       record {
-        answer = Stored (length packets) gap (length (part_of r) - length kept + found.lost);
+        answer = Ok (Stored (length packets) gap (length (part_of r) - length kept + found.lost));
         reader = holding found.part;
         output = sets output 0 packets;
       }
@@ -164,21 +184,21 @@ module _ (r : Reader) (outer output : List ℕ) where
 
   unfoldable pub unwrapped : Result
   unwrapped =
-      check (ltb (length output) shortest_output) (unchanged ShortOutput)  -- 1
-      (check (not (is_outer outer)) (unchanged Foreign)  -- 16
-      (check (is_repeat r.numbers (sequence_in outer)) (unchanged Repeat)
+      check (ltb (length output) shortest_output) (unchanged (Err ShortOutput))  -- 1
+      (check (not (is_outer outer)) (unchanged (Err Foreign))  -- 16
+      (check (is_repeat r.numbers (sequence_in outer)) (unchanged (Ok Repeat))
       accepted))
 
 -- what the reader promises: its answer and the numbers, and the memory of the part and the output after, are those of a result
-pub record Leaves (u : Result) (answer : Unwrapped) (numbers : Numbers) (part output : List ℕ) : Type 0 where
+pub record Leaves (u : Result) (answer : Answer) (numbers : Numbers) (part output : List ℕ) : Type 0 where
   pub answers : answer ≡ u.answer
   pub holds : reader numbers part ≡ u.reader
   pub leaves : output ≡ u.output
 
-abbrev pub UnwrapSays : Numbers → List ℕ → List ℕ → List ℕ → Unwrapped → Numbers → List ℕ → List ℕ → Type 0
+abbrev pub UnwrapSays : Numbers → List ℕ → List ℕ → List ℕ → Answer → Numbers → List ℕ → List ℕ → Type 0
 UnwrapSays numbers part outer output = Leaves (unwrapped (reader numbers part) outer output)
 
-abbrev pub AcceptSays : Numbers → List ℕ → List ℕ → List ℕ → Unwrapped → Numbers → List ℕ → List ℕ → Type 0
+abbrev pub AcceptSays : Numbers → List ℕ → List ℕ → List ℕ → Answer → Numbers → List ℕ → List ℕ → Type 0
 AcceptSays numbers part outer output = Leaves (accepted (reader numbers part) outer output)
 
 -- what some bytes leave that are read behind a part: the packets stored at a place of the output, the place after them, the part held at the start of its

@@ -7,16 +7,15 @@ ghost use Rattle.rtp.specs.Header.{header_bytes, payload_in};
 ghost use Rattle.packets.specs.Packets.{longest_packet, start_of};
 ghost use Rattle.packets.specs.Stored.{stored_head_bytes, stored_packet, stored};
 ghost use Rattle.tunnel.specs.Outer.{longest_outer, offset_in, is_outer};
-ghost use Rattle.tunnel.specs.Unwrap.{shortest_output, fresh_numbers, reader, part_of, found_in, found_before, found_at, is_repeat, gap_before, unwrapped_values, values as Unwrap·values, AcceptSays, UnwrapSays, Gains};
+ghost use Rattle.tunnel.specs.Unwrap.{shortest_output, fresh_numbers, reader, part_of, found_in, found_before, found_at, gap_before, refusal_number, unwrapped_values, AcceptSays, UnwrapSays, Gains};
 
 use packets::{LONGEST_PACKET, STORED_HEAD_BYTES, Start};
 use rtp::HEADER_BYTES;
 
-// The reader's numbers: whether an outer packet was accepted, its sequence number, and how many bytes of a part packet are held.
+// The reader's numbers: the last accepted outer packet's sequence number, none at first, and how many bytes of a part packet are held.
 #[derive(Clone, Copy)]
 pub struct Numbers {
-    pub begun: bool,
-    pub last: u16,
+    pub last: Option<u16>,
     pub held: usize,
 }
 
@@ -32,15 +31,29 @@ pub enum Unwrapped {
     },
     // the last accepted outer packet came again
     Repeat,
-    // number 1
+}
+
+// Why it refuses an outer packet.
+#[derive(Clone, Copy)]
+pub enum Refusal {
     ShortOutput,
-    // number 16: none of the tunnel's outer packets
+    // none of the tunnel's outer packets
     Foreign,
-    // number 17: the marked start lies outside of the payload
-    BadOffset {
-        gap: u16,
-        lost: usize,
-    },
+    // the marked start lies outside of the payload; so many outer packets were left out before this one, and so many bytes are thrown away
+    BadOffset { gap: u16, lost: usize },
+}
+
+// A refusal's number.
+impl From<Refusal> for u8 {
+    ghost from_gives = { λ refusal number. number ≡ refusal_number refusal };
+
+    fn from(refusal: Refusal) -> u8 {
+        match refusal {
+            Refusal::ShortOutput => 1,
+            Refusal::Foreign => 16,
+            Refusal::BadOffset { gap: _, lost: _ } => 17,
+        }
+    }
 }
 
 // An answer in numbers: its number, 0 where it is no refusal; whether it is a repeat; the bytes stored; how many outer packets a gap left out; how many bytes are
@@ -57,7 +70,7 @@ pub struct Values {
 // The answer, and the numbers afterwards.
 #[derive(Clone, Copy)]
 pub struct Fed {
-    pub answer: Unwrapped,
+    pub answer: Result<Unwrapped, Refusal>,
     pub numbers: Numbers,
 }
 
@@ -70,27 +83,39 @@ pub const SHORTEST_OUTPUT: usize = 4096;
 const STLTP: u8 = 97;
 
 // What an answer says.
-pub fn values_of(answer: Unwrapped) -> Values
+pub fn values_of(answer: Result<Unwrapped, Refusal>) -> Values
     ensures { result ≡ unwrapped_values answer }
 {
+    let nothing = Values {
+        number: 0,
+        repeat: false,
+        stored: 0,
+        gap: 0,
+        lost: 0,
+    };
     match answer {
-        Unwrapped::Stored { stored, gap, lost } => told(0, false, stored, gap, lost),
-        Unwrapped::Repeat => told(0, true, 0, 0, 0),
-        Unwrapped::ShortOutput => told(1, false, 0, 0, 0),
-        Unwrapped::Foreign => told(16, false, 0, 0, 0),
-        Unwrapped::BadOffset { gap, lost } => told(17, false, 0, gap, lost),
-    }
-}
-
-fn told(number: u8, repeat: bool, stored: usize, gap: u16, lost: usize) -> Values
-    ensures { result ≡ Unwrap·values number repeat stored gap lost }
-{
-    Values {
-        number: number,
-        repeat: repeat,
-        stored: stored,
-        gap: gap,
-        lost: lost,
+        Ok(Unwrapped::Stored { stored, gap, lost }) => Values {
+            stored,
+            gap,
+            lost,
+            ..nothing
+        },
+        Ok(Unwrapped::Repeat) => Values {
+            repeat: true,
+            ..nothing
+        },
+        Err(refusal) => {
+            let number = u8::from(refusal);
+            match refusal {
+                Refusal::BadOffset { gap, lost } => Values {
+                    number,
+                    gap,
+                    lost,
+                    ..nothing
+                },
+                Refusal::ShortOutput | Refusal::Foreign => Values { number, ..nothing },
+            }
+        }
     }
 }
 
@@ -283,26 +308,17 @@ fn is_outer(outer: &[u8]) -> bool
     rtp::is_plain(STLTP, outer)
 }
 
-// Whether the last accepted sequence number comes again.
-fn is_repeat(numbers: Numbers, sequence: u16) -> bool
-    ensures { result ≡ is_repeat numbers sequence }
-{
-    let last = numbers.last;
-    if !numbers.begun {
-        return false;
-    }
-    sequence == last
-}
-
 // How many outer packets are left out before the one with this sequence number.
 fn gap_before(numbers: Numbers, sequence: u16) -> u16
     ensures { result ≡ gap_before numbers sequence }
 {
-    if !numbers.begun {
-        return 0;
+    match numbers.last {
+        Some(last) => {
+            let expected = last.wrapping_add(1);
+            sequence.wrapping_sub(expected)
+        }
+        None => 0,
     }
-    let expected = (numbers.last as u32 + 1) % 65536;
-    ((sequence as u32 + 65536 - expected) % 65536) as u16
 }
 
 // How many bytes of a part are held: none where they are not the start of a packet that is running.
@@ -363,29 +379,26 @@ fn accept(numbers: Numbers, part: &mut [u8], outer: &[u8], out: &mut [u8]) -> Fe
     let marked = rtp::marker_of(outer) == 1;
     let start = start_in(outer, marked);
     if is_outside(outer, marked, start) {
+        let lost = held + (outer.len() - HEADER_BYTES);
         return Fed {
-            answer: Unwrapped::BadOffset {
-                gap: gap,
-                lost: held + (outer.len() - HEADER_BYTES),
-            },
+            answer: Err(Refusal::BadOffset { gap, lost }),
             numbers: Numbers {
-                begun: true,
-                last: sequence,
+                last: Some(sequence),
                 held: 0,
             },
         };
     }
     let kept = kept_over(gap, held);
     let g = read_behind(part, kept, outer, start, marked, out);
+    let lost = held - kept + g.lost;
     Fed {
-        answer: Unwrapped::Stored {
+        answer: Ok(Unwrapped::Stored {
             stored: g.to,
-            gap: gap,
-            lost: held - kept + g.lost,
-        },
+            gap,
+            lost,
+        }),
         numbers: Numbers {
-            begun: true,
-            last: sequence,
+            last: Some(sequence),
             held: g.held,
         },
     }
@@ -396,8 +409,7 @@ pub fn fresh() -> Numbers
     ensures { result ≡ fresh_numbers }
 {
     Numbers {
-        begun: false,
-        last: 0,
+        last: None,
         held: 0,
     }
 }
@@ -416,20 +428,20 @@ pub fn unwrap(numbers: Numbers, part: &mut [u8; 1500], outer: &[u8], out: &mut [
 {
     if out.len() < SHORTEST_OUTPUT {
         return Fed {
-            answer: Unwrapped::ShortOutput,
-            numbers: numbers,
+            answer: Err(Refusal::ShortOutput),
+            numbers,
         };
     }
     if !is_outer(outer) {
         return Fed {
-            answer: Unwrapped::Foreign,
-            numbers: numbers,
+            answer: Err(Refusal::Foreign),
+            numbers,
         };
     }
-    if is_repeat(numbers, rtp::sequence_of(outer)) {
+    if numbers.last == Some(rtp::sequence_of(outer)) {
         return Fed {
-            answer: Unwrapped::Repeat,
-            numbers: numbers,
+            answer: Ok(Unwrapped::Repeat),
+            numbers,
         };
     }
     let bytes: &mut [u8] = part;

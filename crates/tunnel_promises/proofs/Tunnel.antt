@@ -13,13 +13,12 @@ use Rattle.rtp.specs.Header.{sequence_in, payload_in}
 use Rattle.packets.specs.declared.Start.TheVariants.{Running}
 use Rattle.packets.specs.Packets.{longest_packet, Carried, start_of}
 use Rattle.packets.specs.Stored.{stored, line}
-use Rattle.store.specs.declared.Next.TheVariants.{End}
+use Rattle.std.specs.Prelude.{None, Ok}
 use Rattle.store.specs.Store.{kept_in}
 use Rattle.store.proofs.Laws as stores
 use Rattle.tunnel.specs.declared.Numbers.{Numbers}
-use Rattle.tunnel.specs.declared.Unwrapped.{Unwrapped}
 use Rattle.tunnel.specs.Outer.{offset_in, is_outer}
-use Rattle.tunnel.specs.Unwrap.{shortest_output, most_stored, Reader, reader, part_of, unwrapped_values, is_repeat, marked, unwrapped, UnwrapSays}
+use Rattle.tunnel.specs.Unwrap.{shortest_output, most_stored, Answer, Reader, reader, part_of, unwrapped_values, is_repeat, marked, unwrapped, UnwrapSays}
 use Rattle.tunnel.proofs.Results as results
 use Rattle.carriage.specs.Sent.{Sendable, Choice, Fits, taken, between, sent}
 use Rattle.carriage.specs.Fed.{Call, fed, out_of, Whole, Read, Idle, Balanced, Feeds}
@@ -59,7 +58,7 @@ module _ (r : Reader) (outer output : List ℕ) where
   part_runs = results.part_running r
 
 -- two results can't both meet the promise
-pub one_result : (m : Numbers) (part outer output : List ℕ) {a b : Unwrapped} {n n' : Numbers} {p p' o o' : List ℕ} → UnwrapSays m part outer output a n p o → UnwrapSays m part outer output b n' p' o' → (a ≡ b) × (reader n p ≡ reader n' p') × (o ≡ o')
+pub one_result : (m : Numbers) (part outer output : List ℕ) {a b : Answer} {n n' : Numbers} {p p' o o' : List ℕ} → UnwrapSays m part outer output a n p o → UnwrapSays m part outer output b n' p' o' → (a ≡ b) × (reader n p ≡ reader n' p') × (o ≡ o')
 one_result m part outer output = results.one_result
 
 -- ---- a whole tunnel: any packets, cut in any way, from any place of the line on
@@ -79,7 +78,7 @@ module _ (packets : List (List ℕ)) (carried : Each Sendable packets) (n at : �
 
 -- ---- stored packets: reading back what was stored gives the packets
 
-pub read_back : (packets : List (List ℕ)) → Each Carried packets → kept_in (stored packets) ≡ record { packets = packets; end = End }
+pub read_back : (packets : List (List ℕ)) → Each Carried packets → kept_in (stored packets) ≡ record { packets = packets; end = Ok None }
 read_back = stores.stored-kept
 
 -- ---- the program: what all turns write, on either channel, is what it prints for the file, whatever the reads bring

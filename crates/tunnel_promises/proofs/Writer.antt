@@ -16,7 +16,8 @@ use Rattle.tunnel.specs.Unwrap.{reader, fresh_numbers}
 use Rattle.carriage.specs.Fed.{fed, out_of, Read, Long}
 use Rattle.carriage.specs.Fed.{Call as Reading-as-Call}
 use Rattle.wrapper.specs.declared.Numbers.{Numbers}
-use Rattle.wrapper.specs.declared.Wrapped.{Wrapped}
+use Rattle.wrapper.specs.declared.Refusal.{Refusal}
+use Rattle.std.proofs.Common.{Result}
 use Rattle.wrapper.specs.Wrap.{most_size, most_wrapped, is_size, Writer, writer, left_by, waiting_in, wrapped_values, wrapped, closed, WrapSays, CloseSays}
 use Rattle.round_trip.specs.Calls.{Same, EndToEnd, Full, Last}
 use Rattle.round_trip.specs.Trips.{Call, Fair, given, fresh, left_after, outers_in, taken_in, payloads_in, apart}
@@ -81,10 +82,10 @@ module _ (w : Writer) (output : List ℕ) where
   close-leaves_none = results.close-leaves_none w output
 
 -- two results can't both meet the promises
-pub one_write : (m : Numbers) (bytes packet : List ℕ) (timestamp : ℕ) (output : List ℕ) {a b : Wrapped} {n n' : Numbers} {p p' o o' : List ℕ} → WrapSays m bytes packet timestamp output a n p o → WrapSays m bytes packet timestamp output b n' p' o' → (a ≡ b) × (writer n p ≡ writer n' p') × (o ≡ o')
+pub one_write : (m : Numbers) (bytes packet : List ℕ) (timestamp : ℕ) (output : List ℕ) {a b : Result ℕ Refusal} {n n' : Numbers} {p p' o o' : List ℕ} → WrapSays m bytes packet timestamp output a n p o → WrapSays m bytes packet timestamp output b n' p' o' → (a ≡ b) × (writer n p ≡ writer n' p') × (o ≡ o')
 one_write m bytes packet timestamp output = results.one_result
 
-pub one_close : (m : Numbers) (bytes output : List ℕ) {a b : Wrapped} {n n' : Numbers} {o o' : List ℕ} → CloseSays m bytes output a n o → CloseSays m bytes output b n' o' → (a ≡ b) × (writer n bytes ≡ writer n' bytes) × (o ≡ o')
+pub one_close : (m : Numbers) (bytes output : List ℕ) {a b : Result ℕ Refusal} {n n' : Numbers} {o o' : List ℕ} → CloseSays m bytes output a n o → CloseSays m bytes output b n' o' → (a ≡ b) × (writer n bytes ≡ writer n' bytes) × (o ≡ o')
 one_close m bytes output = results.one_result
 
 -- ---- any calls of a fresh writer: packets, closes and refused calls in any order; any size, any first number, any timestamps

@@ -2,13 +2,13 @@
 // `requires` stands on this page.
 #![tactic(auto)]
 
-ghost use Rattle.std.specs.Prelude.{◌≡◌, ◌+◌, T, length, drop};
+ghost use Rattle.std.specs.Prelude.{◌≡◌, ◌+◌, T, length, drop, Err};
 ghost use Rattle.octets.specs.Checks.{among};
 ghost use Rattle.manners.specs.Manners.{status_of};
 ghost use Rattle.blocks.specs.Blocks.{run_statuses};
 ghost use Rattle.rtp.specs.Header.{is_plain};
 ghost use Rattle.store.specs.Store.{next_in, next_number, packet_in, packet_place};
-ghost use Rattle.tunnel.specs.Unwrap.{fresh_numbers, reader, part_of, unwrapped_values, UnwrapSays};
+ghost use Rattle.tunnel.specs.Unwrap.{fresh_numbers, reader, part_of, refusal_number, unwrapped_values, UnwrapSays};
 ghost use Rattle.packets.specs.Packets.{is_carried};
 ghost use Rattle.wrapper.specs.Wrap.{is_size, fresh_numbers as Wrap·freshNumbers, wrapped_values, WrapSays, CloseSays};
 ghost use Rattle.lukasembo.specs.Steps.{packed_next, StepSays};
@@ -18,8 +18,8 @@ ghost use Rattle.wrap_stream.specs.Streams.{wrap_statuses};
 
 use manners::Ending;
 use std::io::{Read, Write};
-use store::Next;
-use tunnel::{Fed, Numbers, Unwrapped, Values};
+use store::Broken;
+use tunnel::{Fed, Numbers, Refusal, Unwrapped, Values};
 
 // ---- the reader
 
@@ -35,10 +35,16 @@ pub fn unwrap(numbers: Numbers, part: &mut [u8; 1500], outer: &[u8], out: &mut [
     tunnel::unwrap(numbers, part, outer, out)
 }
 
-pub fn values_of(answer: Unwrapped) -> Values
+pub fn values_of(answer: Result<Unwrapped, Refusal>) -> Values
     ensures { result ≡ unwrapped_values answer }
 {
     tunnel::values_of(answer)
+}
+
+pub fn refusal_number(refusal: Refusal) -> u8
+    ensures { result ≡ refusal_number refusal }
+{
+    u8::from(refusal)
 }
 
 pub fn held(numbers: Numbers, part: &[u8; 1500]) -> usize
@@ -55,16 +61,16 @@ pub fn is_plain(kind: u8, packet: &[u8]) -> bool
 
 // ---- a store
 
-pub fn next_at(store: &[u8], at: usize) -> Next
+pub fn next_at(store: &[u8], at: usize) -> Result<Option<usize>, Broken>
     ensures { result ≡ next_in (drop at store.now) }
 {
     store::next_at(store, at)
 }
 
-pub fn next_number(next: Next) -> u8
-    ensures { result ≡ next_number next }
+pub fn broken_number(broken: Broken) -> u8
+    ensures { result ≡ next_number (Err broken) }
 {
-    store::next_number(next)
+    u8::from(broken)
 }
 
 pub fn packet_at(store: &[u8], at: usize) -> &[u8]
@@ -147,7 +153,7 @@ pub fn close(numbers: wrapper::Numbers, bytes: &[u8; 1400], out: &mut [u8]) -> w
     wrapper::close(numbers, bytes, out)
 }
 
-pub fn wrapped_values(answer: wrapper::Wrapped) -> wrapper::Values
+pub fn wrapped_values(answer: Result<usize, wrapper::Refusal>) -> wrapper::Values
     ensures { result ≡ wrapped_values answer }
 {
     wrapper::values_of(answer)

@@ -1,12 +1,12 @@
--- Laws of the log that is put, in the code's own terms: an output xs and a place in it, instead of what is left of the output. Assumes nothing.
+-- Laws of the log that is put for the segments that stand in an output xs. Assumes nothing.
 use mathlib.Core.Path.{◌≡◌, refl, sym, ap, ap₂, ◌∙◌}
 use mathlib.Core.List.{List, [], ◌∷◌, ◌++◌, flat_map, append_assoc}
-use Prim.Native.Nat.{ℕ, zero, suc, ◌+◌, ◌-◌, ◌*◌, ◌≤◌, ◌<◌}
+use Prim.Native.Nat.{ℕ, suc, ◌+◌, ◌-◌, ◌*◌, ◌≤◌, ◌<◌}
 use native.Mathlib.Omega.{arith}
-use lib.ListN.{length, get_or, take, drop, set, length-append, length-drop}
-use lib.Seq.{take_at, drop_at, drop-drop, get_or-drop, get_or-take, length-take-le, sets}
+use lib.ListN.{length, take, drop, length-append, length-drop}
+use lib.Seq.{take_at, drop_at, drop-drop, length-take-le, sets}
 use Rattle.octets.specs.Each.{Each}
-use Rattle.octets.proofs.Stores.{sets-append, copy_next, copy_done}
+use Rattle.octets.proofs.Stores.{sets-append}
 use Rattle.text.specs.Text.{text}
 use Rattle.records.specs.Records.{mark_bytes}
 use Rattle.segments.specs.Segment.{segment_bytes}
@@ -18,38 +18,35 @@ abbrev pub segment_at : List ℕ → ℕ → List ℕ
 segment_at xs from = take segment_bytes (drop from xs)
 
 module _ (xs : List ℕ) (from : ℕ) (room : from + segment_bytes ≤ length xs) where
-  length_segment_at : length (segment_at xs from) ≡ segment_bytes
+  pub length_segment_at : length (segment_at xs from) ≡ segment_bytes
   length_segment_at = length-take-le segment_bytes (drop from xs) (omega (arith, length-drop from xs))
 
-  -- ---- a segment, byte by byte
+-- ---- one record after the other: what is left of the log of count segments after i of them, put where the next one belongs
 
-  pub segment_next : (l : List ℕ) (to i : ℕ) → i < segment_bytes → sets (set l (to + i) (get_or xs (from + i) 0)) (to + (i + 1)) (drop (i + 1) (segment_at xs from)) ≡ sets l (to + i) (drop i (segment_at xs from))
-  segment_next l to i h =
-      let s : List ℕ = segment_at xs from in
-      let byte : get_or s i 0 ≡ get_or xs (from + i) 0 = get_or-take segment_bytes (drop from xs) i 0 h ∙ get_or-drop from xs i 0 in
-      ap (λ (b : ℕ). sets (set l (to + i) b) (to + (i + 1)) (drop (i + 1) s)) (sym byte)
-      ∙ copy_next s l to i (omega (arith, length_segment_at))
+abbrev pub log_left : List ℕ → ℕ → ℕ → List ℕ → List ℕ
+log_left xs count i l = sets l ((mark_bytes + segment_bytes) * i) (log_put (count - i) (drop (segment_bytes * i) xs))
 
-  pub segment-done : (l : List ℕ) (k i : ℕ) → segment_bytes ≤ i → sets l k (drop i (segment_at xs from)) ≡ l
-  segment-done l k i h = copy_done (segment_at xs from) l k i (omega (arith, length_segment_at))
-
-  -- ---- one record after the other: n from the place on
-
-  pub log_next : (l m : List ℕ) (to n : ℕ) → 0 < n → m ≡ sets l to (text "SG" ++ segment_at xs from) → sets m (to + (mark_bytes + segment_bytes)) (log_put (n - 1) (drop (from + segment_bytes) xs)) ≡ sets l to (log_put n (drop from xs))
-  unfolding log_put
-  log_next l m to zero some put = absurd (omega arith)
-  log_next l m to (suc n) some put =
-      let one : suc n - 1 ≡ n = omega arith in
-      let first : List ℕ = text "SG" ++ segment_at xs from in
-      let rest : List ℕ = log_put n (drop segment_bytes (drop from xs)) in
-      let long : mark_bytes + segment_bytes ≡ length first = omega (arith, length_segment_at) in
-      rw (one, sym (drop-drop segment_bytes from xs), put)
-      (ap (λ (w : ℕ). sets (sets l to first) (to + w) rest) long ∙ sym (sets-append first rest l to))
-
-pub log_none : (xs : List ℕ) (n : ℕ) → n ≤ 0 → log_put n xs ≡ []
+pub log_next : (xs l m : List ℕ) (count i : ℕ) → i < count → segment_bytes * count ≤ length xs → m ≡ sets l ((mark_bytes + segment_bytes) * i) (text "SG" ++ segment_at xs (segment_bytes * i)) → log_left xs count (i + 1) m ≡ log_left xs count i l
 unfolding log_put
-log_none xs zero none = refl
-log_none xs (suc n) none = absurd (omega arith)
+log_next xs l m count i more room put =
+    let from : ℕ = segment_bytes * i in
+    let to : ℕ = (mark_bytes + segment_bytes) * i in
+    let n : ℕ = count - (i + 1) in
+    let first : List ℕ = text "SG" ++ segment_at xs from in
+    let rest : List ℕ = log_put n (drop (segment_bytes * (i + 1)) xs) in
+    let left : count - i ≡ suc n = omega arith in
+    let on : from + segment_bytes ≡ segment_bytes * (i + 1) = omega arith in
+    let behind : (mark_bytes + segment_bytes) * (i + 1) ≡ to + length first = omega (arith, length_segment_at xs from (omega arith)) in
+    let own : log_put (count - i) (drop from xs) ≡ first ++ rest =
+    ap (λ (k : ℕ). log_put k (drop from xs)) left
+    ∙ ap (λ (ys : List ℕ). first ++ log_put n ys) (drop-drop segment_bytes from xs ∙ ap (λ (k : ℕ). drop k xs) on) in
+    ap₂ (λ (k : ℕ) (o : List ℕ). sets o k rest) behind put ∙ sym (sets-append first rest l to) ∙ ap (sets l to) (sym own)
+
+pub log_none : (xs l : List ℕ) (count i : ℕ) → count ≤ i → log_left xs count i l ≡ l
+unfolding log_put
+log_none xs l count i past =
+    let none : count - i ≡ 0 = omega arith in
+    rw none refl
 
 -- ---- the log of whole segments
 

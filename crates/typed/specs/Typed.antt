@@ -1,6 +1,6 @@
 -- What is typed to the program `write`: the word `this` or `next`, a space, a listing in hex, and perhaps a newline; and the answer, a log of the
 -- writer's segments.
-use Rattle.std.specs.Prelude.{ℕ, zero, suc, ◌+◌, ◌-◌, ◌*◌, ◌/◌, ◌%◌, ◌≤◌, ◌≡◌, Bool, true, false, cond, ◌&&◌, ◌||◌, not, eqb, ltb, length, get_or, take, drop, replicate}
+use Rattle.std.specs.Prelude.{ℕ, zero, suc, ◌+◌, ◌-◌, ◌*◌, ◌/◌, ◌%◌, ◌≤◌, ◌≡◌, Bool, true, false, cond, ◌&&◌, ◌||◌, not, eqb, ltb, length, get_or, take, drop, replicate, Option, Some, None, Result, Ok, Err}
 use Prim.Native.Char.{code}
 use mathlib.Core.List.{List, [], ◌++◌, flat_map}
 use Rattle.octets.specs.Same.{same}
@@ -11,11 +11,10 @@ use Rattle.meaning.specs.declared.Kind.TheVariants.{This, Next}
 use Rattle.records.specs.Records.{mark_bytes}
 use Rattle.meaning.specs.Said.{list_said}
 use Rattle.segments.specs.Segment.{segment_bytes, most_segments}
-use Rattle.writer.specs.declared.Written.{Written}
-use Rattle.writer.specs.declared.Written.TheVariants.{Segments, Refused}
+use Rattle.writer.specs.declared.Unwritten.{Unwritten}
 use Rattle.writer.specs.Writing.{shortest_output, unwritten_number, plain_segments, write_answer}
-use Rattle.typed.specs.declared.Reply.{Reply}
-use Rattle.typed.specs.declared.Reply.TheVariants.{Log, Not, Unclear, TooLong, NoRoom}
+use Rattle.typed.specs.declared.Unanswered.{Unanswered}
+use Rattle.typed.specs.declared.Unanswered.TheVariants.{Not, Unclear, TooLong, NoRoom}
 
 -- ---- the text
 
@@ -58,6 +57,10 @@ clear typed =
 abbrev pub kind_typed : List ℕ → Kind
 kind_typed typed = cond (begins word_this typed) This Next
 
+-- internal: the kind whose word is there, if one is; no promise cites this
+abbrev pub word_kind : List ℕ → Option Kind
+word_kind typed = cond (begins word_this typed) (Some This) (cond (begins word_next typed) (Some Next) None)
+
 -- ---- the log of some segments: SG before each
 
 abbrev pub log_of : List (List ℕ) → List ℕ
@@ -74,29 +77,29 @@ pub record ReplyValues : Type 0 where
   pub number : ℕ
   pub length : ℕ
 
-abbrev pub reply_values : Reply → ReplyValues
-reply_values (Log n) = record { log = true; number = 0; length = n }
-reply_values (Not f) = record { log = false; number = unwritten_number f; length = 0 }
-reply_values Unclear = record { log = false; number = 0; length = 0 }
-reply_values TooLong = record { log = false; number = 0; length = 0 }
-reply_values NoRoom = record { log = false; number = 0; length = 0 }
+abbrev pub reply_values : Result ℕ Unanswered → ReplyValues
+reply_values (Ok n) = record { log = true; number = 0; length = n }
+reply_values (Err (Not f)) = record { log = false; number = unwritten_number f; length = 0 }
+reply_values (Err Unclear) = record { log = false; number = 0; length = 0 }
+reply_values (Err TooLong) = record { log = false; number = 0; length = 0 }
+reply_values (Err NoRoom) = record { log = false; number = 0; length = 0 }
 
 -- ---- the answer to a text, with a lent buffer for the log
 
 -- what the writer answers, its output long enough
-abbrev pub answer_for : Kind → List ℕ → Written
+abbrev pub answer_for : Kind → List ℕ → Result ℕ Unwritten
 answer_for k xs = write_answer xs k (replicate shortest_output 0)
 
 -- a log in place of the segments
-abbrev pub reply_for : Written → Reply
-reply_for (Segments n) = Log ((mark_bytes + segment_bytes) * n)
-reply_for (Refused f) = Not f
+abbrev pub reply_for : Result ℕ Unwritten → Result ℕ Unanswered
+reply_for (Ok n) = Ok ((mark_bytes + segment_bytes) * n)
+reply_for (Err f) = Err (Not f)
 
-unfoldable pub reply_to : List ℕ → List ℕ → Reply
+unfoldable pub reply_to : List ℕ → List ℕ → Result ℕ Unanswered
 reply_to typed log =
-    cond (ltb (length log) longest_log) NoRoom
-    (cond (ltb longest_text (length typed)) TooLong
-    (cond (not (clear typed)) Unclear
+    cond (ltb (length log) longest_log) (Err NoRoom)
+    (cond (ltb longest_text (length typed)) (Err TooLong)
+    (cond (not (clear typed)) (Err Unclear)
     (reply_for (answer_for (kind_typed typed) (listing_typed typed)))))
 
 -- there is room for a log, and the text is not too long and clear
@@ -104,15 +107,12 @@ abbrev pub Answerable : List ℕ → List ℕ → Type 0
 Answerable typed log = (longest_log ≤ length log) × (length typed ≤ longest_text) × (clear typed ≡ true)
 
 -- the log at the start, bytes past it as they were; any other answer leaves all as it was
-abbrev pub reply_log : Reply → Kind → List ℕ → List ℕ → List ℕ
-reply_log (Log n) k xs log = log_of (plain_segments k (list_said xs)) ++ drop n log
-reply_log (Not f) k xs log = log
-reply_log Unclear k xs log = log
-reply_log TooLong k xs log = log
-reply_log NoRoom k xs log = log
+abbrev pub reply_log : Result ℕ Unanswered → Kind → List ℕ → List ℕ → List ℕ
+reply_log (Ok n) k xs log = log_of (plain_segments k (list_said xs)) ++ drop n log
+reply_log (Err e) k xs log = log
 
 -- what the reply promises: of the text and the buffer before, the answer, and the buffer after
-pub record ReplySays (typed before : List ℕ) (answer : Reply) (after : List ℕ) : Type 0 where
+pub record ReplySays (typed before : List ℕ) (answer : Result ℕ Unanswered) (after : List ℕ) : Type 0 where
   pub answers : answer ≡ reply_to typed before
   pub leaves : after ≡ reply_log (reply_to typed before) (kind_typed typed) (listing_typed typed) before
 

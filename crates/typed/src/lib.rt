@@ -7,18 +7,17 @@ ghost use Rattle.text.specs.Text.{text as Text·text};
 ghost use Rattle.hex_text.specs.Hex.{hex_fits, hex_said};
 ghost use Rattle.records.specs.Records.{mark_bytes};
 ghost use Rattle.segments.specs.Segment.{segment_bytes, most_segments};
-ghost use Rattle.typed.specs.Typed.{kind_bytes, begins as Typed·begins, line_length, longest_log, answer_for, reply_for, reply_log, ReplySays, log_put};
+ghost use Rattle.typed.specs.declared.Unanswered.TheVariants.{Not};
+ghost use Rattle.typed.specs.Typed.{kind_bytes, word_kind, line_length, longest_log, answer_for, reply_for, reply_log, ReplySays, log_put};
 
 use meaning::Kind;
 use records::MARK_BYTES;
 use segments::{MOST_SEGMENTS, SEGMENT_BYTES};
-use writer::{SHORTEST_OUTPUT, Unwritten, Written};
+use writer::{SHORTEST_OUTPUT, Unwritten};
 
-// What is answered to a text.
+// Why a text is answered by no log.
 #[derive(Clone, Copy)]
-pub enum Reply {
-    // a log of so many bytes now stands at the start of the lent buffer
-    Log(usize),
+pub enum Unanswered {
     // the writer refuses the listing
     Not(Unwritten),
     // it is no kind, a space and bytes in hex
@@ -26,6 +25,14 @@ pub enum Reply {
     TooLong,
     // the lent buffer is too short for the log of the longest chunk
     NoRoom,
+}
+
+impl From<Unwritten> for Unanswered {
+    ghost from_gives = { λ refusal reason. reason ≡ Not refusal };
+
+    fn from(refusal: Unwritten) -> Unanswered {
+        Unanswered::Not(refusal)
+    }
 }
 
 const LONGEST_TEXT: usize = 65535;
@@ -40,33 +47,27 @@ pub const LONGEST_LOG: usize = MOST_SEGMENTS as usize * (MARK_BYTES + SEGMENT_BY
 
 // ---- the text
 
-// Whether the text begins with a word of five bytes.
-fn begins(text: &[u8], word: &[u8]) -> bool
-    requires { (kind_bytes ≤ length text.now) × (length word.now ≡ kind_bytes) }
-    ensures { result ≡ Typed·begins word.now text.now }
+// The kind whose word the text begins with; none if it begins with neither.
+fn word_kind(text: &[u8]) -> Option<Kind>
+    ensures { result ≡ word_kind text.now }
 {
-    let mut i = 0;
-    while i < KIND_BYTES {
-        if text[i] != word[i] {
-            return false;
-        }
-        i += 1;
+    if text.starts_with(b"this ") {
+        return Some(Kind::This);
     }
-    true
+    if text.starts_with(b"next ") {
+        return Some(Kind::Next);
+    }
+    None
 }
 
 // How long the text is without the newline at its end.
 fn line_length(text: &[u8]) -> usize
     ensures { result ≡ line_length text.now }
 {
-    let length = text.len();
-    if length == 0 {
-        return 0;
+    match text.last() {
+        Some(b'\n') => text.len() - 1,
+        _ => text.len(),
     }
-    if text[length - 1] == b'\n' {
-        return length - 1;
-    }
-    length
 }
 
 // ---- the log
@@ -78,11 +79,7 @@ fn put_record(segments: &[u8], from: usize, log: &mut [u8], to: usize)
 {
     octets::put_mark(*b"SG", log, to);
     let start = to + MARK_BYTES;
-    let mut i = 0;
-    while i < SEGMENT_BYTES {
-        log[start + i] = segments[from + i];
-        i += 1;
-    }
+    log[start..start + SEGMENT_BYTES].copy_from_slice(&segments[from..from + SEGMENT_BYTES]);
 }
 
 // Puts the log of the first count segments.
@@ -90,38 +87,38 @@ fn put_log(segments: &[u8], count: usize, log: &mut [u8])
     requires { (count ≤ most_segments) × (segment_bytes * count ≤ length segments.now) × ((mark_bytes + segment_bytes) * count ≤ length log.old) }
     ensures { log.new ≡ sets log.old 0 (log_put count segments.now) }
 {
-    let mut from = 0;
-    let mut to = 0;
-    let mut left = count;
-    while 0 < left {
-        put_record(segments, from, log, to);
-        from += SEGMENT_BYTES;
-        to += MARK_BYTES + SEGMENT_BYTES;
-        left -= 1;
+    for i in 0..count {
+        put_record(
+            segments,
+            SEGMENT_BYTES * i,
+            log,
+            (MARK_BYTES + SEGMENT_BYTES) * i,
+        );
     }
 }
 
 // ---- the answer
 
 // Answers to a listing: its segments' log, or the writer's refusal.
-fn answer(kind: Kind, listing: &[u8], log: &mut [u8]) -> Reply
+fn answer(kind: Kind, listing: &[u8], log: &mut [u8]) -> Result<usize, Unanswered>
     requires { longest_log ≤ length log.old }
     ensures value { result ≡ reply_for (answer_for kind listing.now) }
     ensures log_after { log.new ≡ reply_log result kind listing.now log.old }
 {
     let mut output = [0u8; SHORTEST_OUTPUT];
-    match writer::write(listing, kind, &mut output) {
-        Written::Segments(count) => {
-            put_log(&output, count, log);
-            let length = (MARK_BYTES + SEGMENT_BYTES) * count;
-            Reply::Log(length)
-        }
-        Written::Refused(refusal) => Reply::Not(refusal),
-    }
+    let count = writer::write(listing, kind, &mut output)?;
+    put_log(&output, count, log);
+    Ok((MARK_BYTES + SEGMENT_BYTES) * count)
 }
 
 // Answers to a text that has count bytes in hex after its word.
-fn answer_text(text: &[u8], kind: Kind, count: usize, listing: &mut [u8], log: &mut [u8]) -> Reply
+fn answer_text(
+    text: &[u8],
+    kind: Kind,
+    count: usize,
+    listing: &mut [u8],
+    log: &mut [u8],
+) -> Result<usize, Unanswered>
     requires count_in_bounds { (kind_bytes + 2 * count ≤ length text.now) × (count ≤ length listing.old) }
     requires text_value { (hex_fits count (drop kind_bytes text.now) ≡ true) × (longest_log ≤ length log.old) }
     ensures value { result ≡ reply_for (answer_for kind (hex_said count (drop kind_bytes text.now))) }
@@ -131,33 +128,24 @@ fn answer_text(text: &[u8], kind: Kind, count: usize, listing: &mut [u8], log: &
     answer(kind, &listing[..count], log)
 }
 
-// Answers to a text: the log goes to the start of the lent buffer, and any other answer writes nothing.
-pub fn respond(text: &[u8], log: &mut [u8]) -> Reply
+// Answers to a text: the log goes to the start of the lent buffer, and its length is the answer; where there is none, nothing is written.
+pub fn respond(text: &[u8], log: &mut [u8]) -> Result<usize, Unanswered>
     ensures { ReplySays text.now log.old result log.new }
 {
     if log.len() < LONGEST_LOG {
-        return Reply::NoRoom;
+        return Err(Unanswered::NoRoom);
     }
     if LONGEST_TEXT < text.len() {
-        return Reply::TooLong;
+        return Err(Unanswered::TooLong);
     }
-    if text.len() < KIND_BYTES {
-        return Reply::Unclear;
-    }
-    let mut kind = Kind::This;
-    if !begins(text, b"this ") {
-        if !begins(text, b"next ") {
-            return Reply::Unclear;
-        }
-        kind = Kind::Next;
-    }
+    let kind = word_kind(text).ok_or(Unanswered::Unclear)?;
     let digits = line_length(text) - KIND_BYTES;
     if digits % 2 != 0 {
-        return Reply::Unclear;
+        return Err(Unanswered::Unclear);
     }
     let count = digits / 2;
     if !hex_text::hex_fits(text, KIND_BYTES, count) {
-        return Reply::Unclear;
+        return Err(Unanswered::Unclear);
     }
     let mut listing = [0u8; LISTING];
     answer_text(text, kind, count, &mut listing, log)

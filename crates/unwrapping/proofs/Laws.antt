@@ -20,9 +20,10 @@ use Rattle.reports.specs.Reports.{following, said, report_line, longest_report}
 use Rattle.reports.proofs.Laws.{length-report}
 use Rattle.tunnel.specs.declared.Numbers.{Numbers}
 use Rattle.tunnel.specs.declared.Values.{Values}
-use Rattle.tunnel.specs.declared.Unwrapped.{Unwrapped}
-use Rattle.tunnel.specs.declared.Unwrapped.TheVariants.{Stored, Repeat, ShortOutput, Foreign, BadOffset}
-use Rattle.tunnel.specs.Unwrap.{shortest_output, most_stored, Reader, reader, unwrapped_values, unwrapped, UnwrapSays}
+use Rattle.std.specs.Prelude.{Ok, Err}
+use Rattle.tunnel.specs.declared.Unwrapped.TheVariants.{Stored, Repeat}
+use Rattle.tunnel.specs.declared.Refusal.TheVariants.{ShortOutput, Foreign, BadOffset}
+use Rattle.tunnel.specs.Unwrap.{shortest_output, most_stored, Answer, Reader, reader, unwrapped_values, unwrapped, UnwrapSays}
 use Rattle.tunnel.proofs.Results.{Alike, alike, most_stored_lem, most_left_out, most_lost}
 use Rattle.unwrapping.specs.Unwrapping.{outer_form, State, state, long_output, call, packets_text, sayings, report_text, unwrap_channels, FedTo}
 
@@ -76,11 +77,11 @@ module _ (m : Numbers) (part outer out : List ℕ) (to : ℕ) (room : to + short
   like : Alike (reader m part) outer rest long_output rest_long output_long (unwrapped (reader m part) outer rest) (call s outer)
   like = alike (reader m part) outer rest long_output rest_long output_long
 
-  pub stored_room : (a : Unwrapped) (m' : Numbers) (part' rest' : List ℕ) → UnwrapSays m part outer (take (length out - to) (drop to out)) a m' part' rest' → (v : Values) → v ≡ unwrapped_values a → to + v.stored ≤ length out
+  pub stored_room : (a : Answer) (m' : Numbers) (part' rest' : List ℕ) → UnwrapSays m part outer (take (length out - to) (drop to out)) a m' part' rest' → (v : Values) → v ≡ unwrapped_values a → to + v.stored ≤ length out
   stored_room a m' part' rest' says v is =
       omega (arith, ap (λ (w : Values). w.stored) (is ∙ ap unwrapped_values says.answers), most_stored_lem (reader m part) outer rest, room)
 
-  pub feed_says : (a : Unwrapped) (m' : Numbers) (part' rest' : List ℕ) → UnwrapSays m part outer (take (length out - to) (drop to out)) a m' part' rest' → (v : Values) → v ≡ unwrapped_values a → (n : ℕ) → n ≡ following count → (report report' : List ℕ) (told line : ℕ) → Put (report_line (text "OP") n (said v.number v.repeat v.gap v.lost)) report told report' line → FedTo (state m part count) outer out to report told (state m' part' n) (put_mid to (length out - to) out rest') (to + v.stored) report' line
+  pub feed_says : (a : Answer) (m' : Numbers) (part' rest' : List ℕ) → UnwrapSays m part outer (take (length out - to) (drop to out)) a m' part' rest' → (v : Values) → v ≡ unwrapped_values a → (n : ℕ) → n ≡ following count → (report report' : List ℕ) (told line : ℕ) → Put (report_line (text "OP") n (said v.number v.repeat v.gap v.lost)) report told report' line → FedTo (state m part count) outer out to report told (state m' part' n) (put_mid to (length out - to) out rest') (to + v.stored) report' line
   feed_says a m' part' rest' says v is n next report report' told line put =
       let same : v ≡ unwrapped_values (call s outer).answer = is ∙ ap unwrapped_values (says.answers ∙ like.answer) in
       record {
@@ -120,12 +121,12 @@ report-short s outer =
     (omega (arith, most_left_out s.reader outer long_output))
     (omega (arith, most_lost s.reader outer long_output))
   where
-    number_small : (a : Unwrapped) → (unwrapped_values a).number ≤ 17
-    number_small (Stored n gap lost) = lit≤ tt
-    number_small Repeat = lit≤ tt
-    number_small ShortOutput = lit≤ tt
-    number_small Foreign = lit≤ tt
-    number_small (BadOffset gap lost) = lit≤ tt
+    number_small : (a : Answer) → (unwrapped_values a).number ≤ 17
+    number_small (Ok (Stored n gap lost)) = lit≤ tt
+    number_small (Ok Repeat) = lit≤ tt
+    number_small (Err ShortOutput) = lit≤ tt
+    number_small (Err Foreign) = lit≤ tt
+    number_small (Err (BadOffset gap lost)) = lit≤ tt
 
 pub unwrap_room : Room unwrap_channels
 unwrap_room s r = omega (arith, packets-short s (body_in r), report-short s (body_in r))

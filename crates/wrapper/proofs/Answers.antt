@@ -5,19 +5,22 @@ use mathlib.Core.List.{List, [], ◌∷◌, flat_map, append-nil}
 use Prim.Native.Nat.{ℕ, zero, suc, ◌+◌, ◌*◌, ◌/◌, ◌^◌, ◌≤◌, ◌<◌}
 use native.Mathlib.Nat.{zero-mul, suc-mul, mul-add, mul-le-mul_left, div-le_self, div-mul-le_self}
 use native.Mathlib.Omega.{arith}
-use borrow.Author.Tests.{lt-ltb, le-ltb, eq-eqb, ne_eqb}
+use borrow.Author.Tests.{ltb-false, le-ltb, eqb-true, eqb-false, eq-eqb, ne_eqb}
+use lib.Dec.{ltb, eqb}
 use lib.ListN.{length, take, drop}
 use lib.Seq.{sets}
 use Rattle.octets.specs.Bits.{Bytes}
-use Rattle.octets.proofs.Laws.{bytes_take}
+use Rattle.octets.specs.Checks.{check}
+use Rattle.octets.proofs.Laws.{either, bytes_take}
+use Rattle.std.proofs.Common.{Result, Ok, Err}
 use Rattle.rtp.specs.Header.{header_bytes}
 use Rattle.packets.specs.Packets.{longest_packet, is_carried}
 use Rattle.packets.specs.Stored.{line}
 use Rattle.packets.proofs.Laws.{is_carried_lem}
 use Rattle.wrapper.specs.declared.Numbers.{Numbers}
-use Rattle.wrapper.specs.declared.Wrapped.{Wrapped}
-use Rattle.wrapper.specs.declared.Wrapped.TheVariants.{Wrote, ShortOutput, BadSize, NotCarried}
-use Rattle.wrapper.specs.Wrap.{least_size, most_size, most_wrapped, is_size, Writer, writer, left_by, begin_by, Waiting, waiting_in, joined, running, head_bytes, outer_of, outers_of, rest_of, holding, full_in, Result, unchanged, given, giving, wrapped, closed, Leaves}
+use Rattle.wrapper.specs.declared.Refusal.{Refusal}
+use Rattle.wrapper.specs.declared.Refusal.TheVariants.{ShortOutput}
+use Rattle.wrapper.specs.Wrap.{least_size, most_size, most_wrapped, is_size, Writer, writer, left_by, begin_by, Waiting, waiting_in, joined, running, head_bytes, outer_of, outers_of, rest_of, holding, full_in, filled_in, last_in, Sized, Fills, Outcome, unchanged, last_of, given, giving, wrapped, closed, Leaves}
 use Rattle.wrapper.proofs.Laws.{size-within, left_less, length_left}
 use Rattle.wrapper.proofs.Outers.{outer-stored, length-outer_of}
 use Rattle.wrapper.proofs.Later.{length-line-outers}
@@ -25,16 +28,10 @@ use Rattle.wrapper.proofs.Fills.{length-joined, full_most, once}
 
 -- ---- what is known once the size and the packet are right
 
-module _ (m : Numbers) (sized : is_size m.size ≡ true) where
-  pub record Sized : Type 0 where
-    pub least : least_size ≤ m.size
-    pub most : m.size ≤ most_size
-    pub less : left_by m < m.size
-
-  pub sized_is : Sized
-  sized_is =
-      let s = size-within m.size sized in
-      record { least = s.0; most = s.1; less = left_less m (omega (arith, s.0)) }
+pub sized_is : (m : Numbers) → is_size m.size ≡ true → Sized m
+sized_is m sized =
+    let s = size-within m.size sized in
+    record { least = s.0; most = s.1; less = left_less m (omega (arith, s.0)) }
 
 pub carried_most : (packet : List ℕ) → is_carried packet ≡ true → length packet ≤ longest_packet
 carried_most packet t = (is_carried_lem packet t).most
@@ -53,121 +50,172 @@ wrote_most (suc (suc (suc k))) size n least most inside short =
     let more : ℕ = suc (suc k) in
     omega (arith, suc-mul more size, suc-mul (suc k) size, suc-mul k size, mul-le-mul_left more least, suc-mul more (header_bytes + size), mul-add more header_bytes size)
 
--- what is known of the payloads that are full
-pub record Full (full n size : ℕ) : Type 0 where
-  pub few : full ≤ n
-  pub once : size ≤ full * size
-  pub inside : full * size ≤ n
-  pub most : n < full * size + size
+-- what is known once a packet's checks are passed
+record Passed (m : Numbers) (packet : List ℕ) (space full : ℕ) : Type 0 where
+  sized : Sized m
+  short : length packet ≤ longest_packet
+  is : full ≡ (left_by m + length packet) / m.size
+  room : full * (header_bytes + m.size) ≤ space
 
-pub full_is : (full n size : ℕ) → full ≡ n / size → 1 ≤ full → 1 ≤ size → Full full n size
-full_is full n size is some sized =
-    record {
-      few = omega (arith, is, div-le_self n size);
-      once = once full size some;
-      inside = rw is (div-mul-le_self n size);
-      most = rw is (full_most n size sized);
-    }
+passed : (m : Numbers) (packet : List ℕ) (space full : ℕ) → filled_in m packet space ≡ Ok full → Passed m packet space full
+unfolding filled_in
+passed m packet space full e =
+    let most : ℕ = (left_by m + length packet) / m.size * (header_bytes + m.size) in
+    either (is_size m.size)
+    (λ s.
+    either (is_carried packet)
+    (λ t.
+    either (ltb space most) (λ l. absurd (let f = rw (s, t, l) at e in cc))
+    (λ l.
+    let f : (left_by m + length packet) / m.size ≡ full = (let g = rw (s, t, l) at e in cc) in
+    record { sized = sized_is m s; short = carried_most packet t; is = sym f; room = omega (arith, ltb-false space most l, ap (λ (k : ℕ). k * (header_bytes + m.size)) f) }))
+    (λ t. absurd (let f = rw (s, t) at e in cc)))
+    (λ s. absurd (let f = rw s at e in cc))
 
--- ---- the checks
+-- ---- a packet, by its checks
 
-module _ (w : Writer) (output packet : List ℕ) (timestamp : ℕ) where
+-- outer packets of so many bytes are given
+giving_by : (w : Writer) (output : List ℕ) (outers : List (List ℕ)) (v : Waiting) (n : ℕ) → length (line outers) ≡ n → giving w output outers v ≡ check (ltb (length output) n) (unchanged w output ShortOutput) (given w output outers v)
+unfolding giving
+giving_by w output outers v n long = ap (λ (n : ℕ). check (ltb (length output) n) (unchanged w output ShortOutput) (given w output outers v)) long
+
+module _ (w : Writer) (output packet : List ℕ) (timestamp : ℕ) (memory : length w.bytes ≡ most_size) where
   abbrev size : ℕ
   size = w.numbers.size
 
   abbrev v : Waiting
   v = joined (waiting_in w) packet timestamp
 
-  pub wrap_bad : is_size size ≡ false → wrapped w output packet timestamp ≡ unchanged w output BadSize
-  unfolding wrapped
-  wrap_bad t = rw t refl
+  abbrev pub by_filled : Result ℕ Refusal → Outcome
+  by_filled (Ok full) = given w output (outers_of full size w.numbers.next timestamp v) (rest_of full size timestamp v)
+  by_filled (Err refusal) = unchanged w output refusal
 
-  module _ (sized : is_size size ≡ true) where
-    pub wrap_other : is_carried packet ≡ false → wrapped w output packet timestamp ≡ unchanged w output NotCarried
-    unfolding wrapped
-    wrap_other t = rw (sized, t) refl
+  abbrev full : ℕ
+  full = (left_by w.numbers + length packet) / size
 
-    module _ (carried : is_carried packet ≡ true) (memory : length w.bytes ≡ most_size) (full : ℕ) (is : full ≡ (left_by w.numbers + length packet) / size) where
-      full_there : full ≡ full_in w v
-      full_there =
-          let s = sized_is w.numbers sized in
-          is ∙ ap (λ (n : ℕ). n / size) (sym (length-joined w.numbers w.bytes s.less s.most memory packet timestamp))
+  filling_is : is_size size ≡ true → giving w output (outers_of (full_in w v) size w.numbers.next timestamp v) (rest_of (full_in w v) size timestamp v) ≡ check (ltb (length output) (full * (header_bytes + size))) (unchanged w output ShortOutput) (by_filled (Ok full))
+  filling_is s =
+      let count : full_in w v ≡ full = ap (λ (n : ℕ). n / size) (length-joined w.numbers w.bytes (sized_is w.numbers s) memory packet timestamp) in
+      giving_by w output (outers_of (full_in w v) size w.numbers.next timestamp v) (rest_of (full_in w v) size timestamp v) _ (length-line-outers (full_in w v) size w.numbers.next timestamp v (div-mul-le_self (length v.bytes) size))
+      ∙ ap (λ (k : ℕ). check (ltb (length output) (k * (header_bytes + size))) (unchanged w output ShortOutput) (by_filled (Ok k))) count
 
-      long : length (line (outers_of (full_in w v) size w.numbers.next timestamp v)) ≡ full * (header_bytes + size)
-      long =
-          length-line-outers (full_in w v) size w.numbers.next timestamp v (div-mul-le_self (length v.bytes) size)
-          ∙ ap (λ (k : ℕ). k * (header_bytes + size)) (sym full_there)
+  pub wrapped_is : wrapped w output packet timestamp ≡ by_filled (filled_in w.numbers packet (length output))
+  unfolding wrapped filled_in
+  wrapped_is =
+      either (is_size size)
+      (λ s.
+      either (is_carried packet)
+      (λ t. rw (s, t, filling_is s) (either (ltb (length output) (full * (header_bytes + size))) (λ l. rw l refl) (λ l. rw l refl)))
+      (λ t. rw (s, t) refl))
+      (λ s. rw s refl)
 
-      pub wrap_short : length output < full * (header_bytes + size) → wrapped w output packet timestamp ≡ unchanged w output ShortOutput
-      unfolding wrapped giving
-      wrap_short h = rw (sized, carried, lt-ltb (length output) (length (line (outers_of (full_in w v) size w.numbers.next timestamp v))) (omega (arith, long))) refl
+  pub wrap_says : {r : Result ℕ Refusal} → filled_in w.numbers packet (length output) ≡ r → {a : Result ℕ Refusal} {n : Numbers} {bytes output' : List ℕ} → Leaves (by_filled r) a n bytes output' → Leaves (wrapped w output packet timestamp) a n bytes output'
+  wrap_says e says = rw (wrapped_is ∙ ap by_filled e) says
 
-      pub wrap_given : full * (header_bytes + size) ≤ length output → wrapped w output packet timestamp ≡ given w output (outers_of (full_in w v) size w.numbers.next timestamp v) (rest_of (full_in w v) size timestamp v)
-      unfolding wrapped giving
-      wrap_given h = rw (sized, carried, le-ltb (length output) (length (line (outers_of (full_in w v) size w.numbers.next timestamp v))) (omega (arith, long))) refl
+-- what no payload is full of waits; else the packet fills some
+pub filled_none : (m : Numbers) (packet : List ℕ) (space : ℕ) → filled_in m packet space ≡ Ok 0 → Sized m × (left_by m + length packet < m.size)
+filled_none m packet space e =
+    let p = passed m packet space 0 e in
+    (p.sized, omega (arith, full_most (left_by m + length packet) m.size (omega (arith, p.sized.least)), ap (λ (k : ℕ). k * m.size) p.is, zero-mul m.size))
 
-      -- no payload is full
-      pub wrap_kept : full ≡ 0 → wrapped w output packet timestamp ≡ given w output [] v
-      unfolding outers_of rest_of
-      wrap_kept none =
-          wrap_given (omega (arith, ap (λ (k : ℕ). k * (header_bytes + size)) none, zero-mul (header_bytes + size)))
-          ∙ ap (λ (k : ℕ). given w output (outers_of k size w.numbers.next timestamp v) (rest_of k size timestamp v)) (sym full_there ∙ none)
+pub filled_some : (m : Numbers) (packet : List ℕ) (space full : ℕ) → filled_in m packet space ≡ Ok full → (full ≡ 0 → ⊥) → Fills m packet space full
+filled_some m packet space full e some =
+    let p = passed m packet space full e in
+    let n : ℕ = left_by m + length packet in
+    record {
+      sized = p.sized;
+      short = p.short;
+      is = p.is;
+      few = omega (arith, p.is, div-le_self n m.size);
+      some = omega arith;
+      once = once full m.size (omega arith);
+      inside = rw p.is (div-mul-le_self n m.size);
+      most = rw p.is (full_most n m.size (omega (arith, p.sized.least)));
+      room = p.room;
+    }
 
-module _ (w : Writer) (output : List ℕ) where
-  pub close_bad : is_size w.numbers.size ≡ false → closed w output ≡ unchanged w output BadSize
+-- ---- the close, likewise
+
+pub last_told : (m : Numbers) (space left : ℕ) → last_in m space ≡ Ok left → Sized m × (left ≡ left_by m) × ((left ≡ 0 → ⊥) → header_bytes + left ≤ space)
+unfolding last_in
+last_told m space left e =
+    either (is_size m.size)
+    (λ s.
+    either (eqb (left_by m) 0)
+    (λ z.
+    let f : left_by m ≡ left = (let g = rw (s, z) at e in cc) in
+    (sized_is m s, sym f, λ some. absurd (some (sym f ∙ eqb-true (left_by m) 0 z))))
+    (λ z.
+    either (ltb space (header_bytes + left_by m)) (λ l. absurd (let f = rw (s, z, l) at e in cc))
+    (λ l.
+    let f : left_by m ≡ left = (let g = rw (s, z, l) at e in cc) in
+    (sized_is m s, sym f, λ some. omega (arith, f, ltb-false space (header_bytes + left_by m) l)))))
+    (λ s. absurd (let f = rw s at e in cc))
+
+module _ (w : Writer) (output : List ℕ) (memory : length w.bytes ≡ most_size) where
+  abbrev pub by_last : Result ℕ Refusal → Outcome
+  by_last (Ok left) = given w output (last_of w (waiting_in w)) (running w.numbers.timestamp [])
+  by_last (Err refusal) = unchanged w output refusal
+
+  left_long : Sized w.numbers → length (waiting_in w).bytes ≡ left_by w.numbers
+  left_long s = length_left w.numbers w.bytes (omega (arith, s.less, s.most, memory))
+
+  abbrev last : List (List ℕ)
+  last = outer_of w.numbers.next (waiting_in w) ∷ []
+
+  last_long : Sized w.numbers → length (line last) ≡ header_bytes + left_by w.numbers
+  unfolding line flat_map
+  last_long s =
+      ap length (append-nil (outer_of w.numbers.next (waiting_in w)))
+      ∙ length-outer_of w.numbers.next (waiting_in w)
+      ∙ ap (λ (n : ℕ). header_bytes + n) (left_long s)
+
+  -- nothing is left
+  pub none_last : Sized w.numbers → left_by w.numbers ≡ 0 → last_of w (waiting_in w) ≡ []
+  none_last s none = rw (eq-eqb (length (waiting_in w).bytes) 0 (left_long s ∙ none)) refl
+
+  some_last : Sized w.numbers → (left_by w.numbers ≡ 0 → ⊥) → last_of w (waiting_in w) ≡ last
+  some_last s some = rw (ne_eqb (length (waiting_in w).bytes) 0 (λ e. some (sym (left_long s) ∙ e))) refl
+
+  closing_is : (outers : List (List ℕ)) (n : ℕ) → is_size w.numbers.size ≡ true → last_of w (waiting_in w) ≡ outers → length (line outers) ≡ n → closed w output ≡ check (ltb (length output) n) (unchanged w output ShortOutput) (by_last (Ok (left_by w.numbers)))
   unfolding closed
-  close_bad t = rw t refl
+  closing_is outers n s is long =
+      rw s
+      (giving_by w output (last_of w (waiting_in w)) (running w.numbers.timestamp []) n (ap (λ (o : List (List ℕ)). length (line o)) is ∙ long))
 
-  module _ (sized : is_size w.numbers.size ≡ true) (memory : length w.bytes ≡ most_size) where
-    left_long : length (waiting_in w).bytes ≡ left_by w.numbers
-    left_long = let s = sized_is w.numbers sized in length_left w.numbers w.bytes (omega (arith, s.less, s.most, memory))
+  pub closed_is : closed w output ≡ by_last (last_in w.numbers (length output))
+  unfolding closed last_in line flat_map
+  closed_is =
+      let left : ℕ = left_by w.numbers in
+      either (is_size w.numbers.size)
+      (λ s.
+      let r = sized_is w.numbers s in
+      either (eqb left 0)
+      (λ z. closing_is [] 0 s (none_last r (eqb-true left 0 z)) refl ∙ rw (s, z, le-ltb (length output) 0 (omega arith)) refl)
+      (λ z.
+      closing_is last (header_bytes + left) s (some_last r (eqb-false left 0 z)) (last_long r)
+      ∙ rw (s, z) (either (ltb (length output) (header_bytes + left)) (λ l. rw l refl) (λ l. rw l refl))))
+      (λ s. rw s refl)
 
-    pub close_none : left_by w.numbers ≡ 0 → closed w output ≡ given w output [] (running w.numbers.timestamp [])
-    unfolding closed giving line flat_map
-    close_none none = rw (sized, eq-eqb (length (waiting_in w).bytes) 0 (left_long ∙ none), le-ltb (length output) 0 (omega arith)) refl
+  pub close_says : {r : Result ℕ Refusal} → last_in w.numbers (length output) ≡ r → {a : Result ℕ Refusal} {n : Numbers} {bytes output' : List ℕ} → Leaves (by_last r) a n bytes output' → Leaves (closed w output) a n bytes output'
+  close_says e says = rw (closed_is ∙ ap by_last e) says
 
-    module _ (some : left_by w.numbers ≡ 0 → ⊥) where
-      abbrev last : List (List ℕ)
-      last = outer_of w.numbers.next (waiting_in w) ∷ []
+  -- something is: as the code stores it
+  module _ (s : Sized w.numbers) (left : ℕ) (count : left ≡ left_by w.numbers) (some : left ≡ 0 → ⊥) where
+    is_last : last_of w (waiting_in w) ≡ last
+    is_last = some_last s (λ e. some (count ∙ e))
 
-      there : length (waiting_in w).bytes ≡ 0 → ⊥
-      there e = some (sym left_long ∙ e)
+    pub close-stored : w.numbers.next < 65536 → w.numbers.timestamp < 2 ^ 32 → Bytes w.bytes → (o₁ o₂ : List ℕ) (begin : ℕ) → begin ≡ begin_by w.numbers → o₁ ≡ sets output 0 (head_bytes w.numbers.next w.numbers.timestamp begin left) → o₂ ≡ sets o₁ header_bytes (take left (drop 0 w.bytes)) → o₂ ≡ sets output 0 (line (last_of w (waiting_in w)))
+    unfolding line flat_map
+    close-stored short stamp bytes o₁ o₂ begin at first second =
+        second
+        ∙ (λ i. sets ((first ∙ (λ j. sets output 0 (head_bytes w.numbers.next w.numbers.timestamp (at j) ((count ∙ sym (left_long s)) j)))) i) header_bytes (take (count i) w.bytes))
+        ∙ outer-stored w.numbers.next (waiting_in w) short stamp (omega (arith, left_long s, s.less, s.most)) (bytes_take (left_by w.numbers) w.bytes bytes) output 0
+        ∙ ap (sets output 0) (sym (append-nil (outer_of w.numbers.next (waiting_in w))))
+        ∙ ap (λ (o : List (List ℕ)). sets output 0 (line o)) (sym is_last)
 
-      last_long : length (line last) ≡ header_bytes + left_by w.numbers
-      unfolding line flat_map
-      last_long =
-          ap length (append-nil (outer_of w.numbers.next (waiting_in w)))
-          ∙ length-outer_of w.numbers.next (waiting_in w)
-          ∙ ap (λ (n : ℕ). header_bytes + n) left_long
+    pub close_wrote : header_bytes + left ≡ length (line (last_of w (waiting_in w)))
+    close_wrote = ap (λ (n : ℕ). header_bytes + n) count ∙ sym (last_long s) ∙ ap (λ (o : List (List ℕ)). length (line o)) (sym is_last)
 
-      pub close-short : length output < header_bytes + left_by w.numbers → closed w output ≡ unchanged w output ShortOutput
-      unfolding closed giving
-      close-short h = rw (sized, ne_eqb (length (waiting_in w).bytes) 0 there, lt-ltb (length output) (length (line last)) (omega (arith, last_long))) refl
-
-      pub close-given : header_bytes + left_by w.numbers ≤ length output → closed w output ≡ given w output last (running w.numbers.timestamp [])
-      unfolding closed giving
-      close-given h = rw (sized, ne_eqb (length (waiting_in w).bytes) 0 there, le-ltb (length output) (length (line last)) (omega (arith, last_long))) refl
-
-      -- as the code stores it
-      pub close-stored : w.numbers.next < 65536 → w.numbers.timestamp < 2 ^ 32 → Bytes w.bytes → (o₁ o₂ : List ℕ) (left begin : ℕ) → left ≡ left_by w.numbers → begin ≡ begin_by w.numbers → o₁ ≡ sets output 0 (head_bytes w.numbers.next w.numbers.timestamp begin left) → o₂ ≡ sets o₁ header_bytes (take left (drop 0 w.bytes)) → o₂ ≡ sets output 0 (line last)
-      unfolding line flat_map
-      close-stored short stamp bytes o₁ o₂ left begin count at first second =
-          let s = sized_is w.numbers sized in
-          second
-          ∙ (λ i. sets ((first ∙ (λ j. sets output 0 (head_bytes w.numbers.next w.numbers.timestamp (at j) ((count ∙ sym left_long) j)))) i) header_bytes (take (count i) w.bytes))
-          ∙ outer-stored w.numbers.next (waiting_in w) short stamp (omega (arith, left_long, s.less, s.most)) (bytes_take (left_by w.numbers) w.bytes bytes) output 0
-          ∙ ap (sets output 0) (sym (append-nil (outer_of w.numbers.next (waiting_in w))))
-
-      pub close_wrote : (left : ℕ) → left ≡ left_by w.numbers → Wrote (header_bytes + left) ≡ Wrote (length (line last))
-      close_wrote left is = ap (λ (n : ℕ). Wrote (header_bytes + n)) is ∙ ap Wrote (sym last_long)
-
--- ---- each answer says it
-
-pub says_unchanged : {u : Result} (m : Numbers) (bytes output : List ℕ) (r : Wrapped) → u ≡ unchanged (writer m bytes) output r → {a : Wrapped} {n : Numbers} → a ≡ r → n ≡ m → Leaves u a n bytes output
-says_unchanged m bytes output r is e f = rw is (record { answers = e; holds = ap (λ (k : Numbers). writer k bytes) f; leaves = refl })
-
-pub says_given : {u : Result} (w : Writer) (output : List ℕ) (outers : List (List ℕ)) (v : Waiting) → u ≡ given w output outers v → {a : Wrapped} {n : Numbers} {bytes output' : List ℕ} → a ≡ Wrote (length (line outers)) → writer n bytes ≡ holding w (length outers) v → output' ≡ sets output 0 (line outers) → Leaves u a n bytes output'
-says_given w output outers v is e f g = rw is (record { answers = e; holds = f; leaves = g })
-
-pub says_same : {u : Result} {t : Result} → u ≡ t → {a : Wrapped} {n : Numbers} {bytes output : List ℕ} → Leaves t a n bytes output → Leaves u a n bytes output
-says_same is l = rw is l
+    pub close_counts : 1 ≡ length (last_of w (waiting_in w))
+    close_counts = ap (λ (o : List (List ℕ)). length o) (sym is_last)

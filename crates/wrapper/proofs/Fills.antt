@@ -15,8 +15,8 @@ use Rattle.rtp.specs.Header.{header_bytes, sequences}
 use Rattle.packets.specs.Stored.{line}
 use Rattle.tunnel.proofs.Laws.{one, sets_front}
 use Rattle.wrapper.specs.declared.Numbers.{Numbers}
-use Rattle.wrapper.specs.declared.Wrapped.TheVariants.{Wrote}
-use Rattle.wrapper.specs.Wrap.{most_size, writer, left_by, begin_by, waiting_in, joined, first_of, running, Waiting, head_bytes, outer_of, outers_of, rest_of, holding, full_in, FillSays}
+use Rattle.std.proofs.Common.{Ok}
+use Rattle.wrapper.specs.Wrap.{most_size, writer, left_by, begin_by, waiting_in, joined, first_of, running, Waiting, head_bytes, outer_of, outers_of, rest_of, holding, Sized, Fills, SendSays}
 use Rattle.wrapper.proofs.Laws.{length_left, stamp-joined}
 use Rattle.wrapper.proofs.Outers.{outer-stored, length-outer_of}
 use Rattle.wrapper.proofs.Later.{length-outers, length-line-outers, rest_some}
@@ -32,7 +32,7 @@ module _ (xs ys : List ℕ) (left n : ℕ) (long : length xs ≡ left) (behind :
   drop-behind : drop n (xs ++ ys) ≡ drop (n - left) ys
   drop-behind = ap (λ (k : ℕ). drop k (xs ++ ys)) place ∙ drop-append-add xs ys (n - left)
 
-module _ (m : Numbers) (bytes : List ℕ) (less : left_by m < m.size) (most : m.size ≤ most_size) (memory : length bytes ≡ most_size) (packet : List ℕ) (timestamp : ℕ) where
+module _ (m : Numbers) (bytes : List ℕ) (sized : Sized m) (memory : length bytes ≡ most_size) (packet : List ℕ) (timestamp : ℕ) where
   abbrev v : Waiting
   v = joined (waiting_in (writer m bytes)) packet timestamp
 
@@ -90,21 +90,18 @@ module _ (m : Numbers) (bytes : List ℕ) (less : left_by m < m.size) (most : m.
 
   -- ---- and those behind it
 
-  module _ (full : ℕ) (at_least_lem : 1 ≤ full) (is : full ≡ (left + length packet) / size) (size-once : size ≤ full * size) (full-inside : full * size ≤ left + length packet) where
-    full_is : full ≡ full_in (writer m bytes) v
-    full_is = is ∙ ap (λ (n : ℕ). n / size) (sym length-joined)
-
+  module _ (full space : ℕ) (f : Fills m packet space full) where
     abbrev outers : List (List ℕ)
     outers = outers_of full size m.next timestamp v
 
     rest_is : rest_of full size timestamp v ≡ running timestamp (drop (full * size - left) packet)
     rest_is =
-        rest_some full size timestamp v at_least_lem
+        rest_some full size timestamp v f.some
         ∙ ap (running timestamp) (drop-behind waits packet left (full * size) long (omega arith))
 
     line-outers : line outers ≡ outer_of m.next (first_of size v) ++ line (outers_of (full - 1) size ((m.next + 1) % sequences) timestamp (running timestamp (drop (size - left) packet)))
     unfolding outers_of line flat_map
-    line-outers = go full at_least_lem
+    line-outers = go full f.some
       where
         go : (k : ℕ) → 1 ≤ k → line (outers_of k size m.next timestamp v) ≡ outer_of m.next (first_of size v) ++ line (outers_of (k - 1) size ((m.next + 1) % sequences) timestamp (running timestamp (drop (size - left) packet)))
         go zero h = absurd (omega arith)
@@ -112,18 +109,17 @@ module _ (m : Numbers) (bytes : List ℕ) (less : left_by m < m.size) (most : m.
             let count : k ≡ suc k - 1 = omega arith in
             (λ i. outer_of m.next (first_of size v) ++ line (outers_of (count i) size ((m.next + 1) % sequences) timestamp (running timestamp (drop-behind waits packet left size long (omega arith) i))))
 
-    pub fill_says : (out o₁ o₂ bytes' : List ℕ) (l one next rest : ℕ) → l ≡ left → one ≡ (m.next + 1) % sequences → o₁ ≡ sets out 0 (outer_of m.next (first_of size v)) → o₂ ≡ sets o₁ (header_bytes + size) (line (outers_of (full - 1) size one timestamp (running timestamp (drop (size - l) packet)))) → next ≡ (m.next + full) % sequences → rest ≡ length packet - (full * size - l) → bytes' ≡ sets bytes 0 (take rest (drop (full * size - l) packet)) → FillSays m bytes packet timestamp out (Wrote (full * (header_bytes + size))) (record { size = size; next = next; left = rest; begin = rest; timestamp = timestamp }) bytes' o₂
+    pub fill_says : (out o₁ o₂ bytes' : List ℕ) (l one next rest : ℕ) → l ≡ left → one ≡ (m.next + 1) % sequences → o₁ ≡ sets out 0 (outer_of m.next (first_of size v)) → o₂ ≡ sets o₁ (header_bytes + size) (line (outers_of (full - 1) size one timestamp (running timestamp (drop (size - l) packet)))) → next ≡ (m.next + full) % sequences → rest ≡ length packet - (full * size - l) → bytes' ≡ sets bytes 0 (take rest (drop (full * size - l) packet)) → SendSays m bytes packet timestamp full out (Ok (full * (header_bytes + size))) (record { size = size; next = next; left = rest; begin = rest; timestamp = timestamp }) bytes' o₂
     fill_says out o₁ o₂ bytes' l one next rest is-left is_one first second number count end =
-        rw (sym full_is)
-        (record {
-          answers = ap Wrote (sym (length-line-outers full size m.next timestamp v (omega (arith, length-joined))));
+        record {
+          answers = ap Ok (sym (length-line-outers full size m.next timestamp v (omega (arith, length-joined))));
           holds = λ i. record { numbers = record { size = size; next = nexts i; left = lefts i; begin = begins i; timestamp = stamps i }; bytes = (end ∙ ap (sets bytes 0) tail) i };
           leaves =
               second
               ∙ (λ i. sets (first i) ((sym long_first ∙ sym (zero-add (length (outer_of m.next (first_of size v))))) i) (line (outers_of (full - 1) size (is_one i) timestamp (running timestamp (drop (size - is-left i) packet)))))
               ∙ sym (sets-append (outer_of m.next (first_of size v)) (line (outers_of (full - 1) size ((m.next + 1) % sequences) timestamp (running timestamp (drop (size - left) packet)))) out 0)
               ∙ ap (sets out 0) (sym line-outers);
-        })
+        }
       where
         nexts : next ≡ (m.next + length outers) % sequences
         nexts = number ∙ ap (λ (n : ℕ). (m.next + n) % sequences) (sym (length-outers full size m.next timestamp v))

@@ -70,33 +70,31 @@ module _ (k size sequence timestamp : ℕ) (packet : List ℕ) (from : ℕ) (out
   puts_inside out zero n here to some p = absurd (omega arith)
   puts_inside out (suc todo) n here to some p = (omega (arith, p.inside, suc-mul todo size), omega (arith, p.room, suc-mul todo (header_bytes + size)))
 
-  pub puts_end : (out : List ℕ) (todo n here to : ℕ) → todo ≤ 0 → Puts out todo n here to → out ≡ sets out₀ at (line (outers_at k sequence from))
+  pub puts_end : (out : List ℕ) (todo n here to : ℕ) → todo ≡ 0 → Puts out todo n here to → out ≡ sets out₀ at (line (outers_at k sequence from))
   unfolding outers_of line flat_map
-  puts_end out zero n here to none p = p.whole
-  puts_end out (suc todo) n here to none p = absurd (omega arith)
+  puts_end out todo n here to none p = rw none at p.whole
 
   module _ (stamp : timestamp < 2 ^ 32) (most : size ≤ most_size) (bytes : Bytes packet) where
-    pub puts_next : (out : List ℕ) (todo n here to : ℕ) → 0 < todo → Puts out todo n here to → (out₁ out₂ : List ℕ) (n' : ℕ) → out₁ ≡ sets out to (head_bytes n timestamp size size) → out₂ ≡ sets out₁ (to + header_bytes) (take size (drop here packet)) → n' ≡ (n + 1) % sequences → Puts out₂ (todo - 1) n' (here + size) (to + (header_bytes + size))
+    pub puts_next : (out : List ℕ) (todo more n here to : ℕ) → todo ≡ suc more → Puts out todo n here to → (out₁ out₂ : List ℕ) (n' : ℕ) → out₁ ≡ sets out to (head_bytes n timestamp size size) → out₂ ≡ sets out₁ (to + header_bytes) (take size (drop here packet)) → n' ≡ (n + 1) % sequences → Puts out₂ more n' (here + size) (to + (header_bytes + size))
     unfolding outers_of line flat_map
-    puts_next out zero n here to some p out₁ out₂ n' first second next = absurd (omega arith)
-    puts_next out (suc todo) n here to some p out₁ out₂ n' first second next =
+    puts_next out todo more n here to is p out₁ out₂ n' first second next =
+        let q : Puts out (suc more) n here to = rw is at p in
         let xs : List ℕ = drop here packet in
         let v : Waiting = first_of size (running timestamp xs) in
-        let long : length (take size xs) ≡ size = length-take-le size xs (omega (arith, length-drop here packet, p.inside, suc-mul todo size)) in
+        let inside : here + size ≤ length packet = omega (arith, q.inside, suc-mul more size) in
+        let long : length (take size xs) ≡ size = length-take-le size xs (omega (arith, length-drop here packet, inside)) in
         let stored : out₂ ≡ sets out to (outer_of n v) =
         second
-        ∙ ap (λ (l : List ℕ). sets l (to + header_bytes) (take size xs)) (first ∙ ap (sets out to) (sym (head_none n timestamp (length xs) size (omega (arith, length-drop here packet, p.inside, suc-mul todo size)))) ∙ ap (λ (m : ℕ). sets out to (head_bytes n timestamp (length xs) m)) (sym long))
-        ∙ outer-stored n v p.number stamp (omega (arith, long)) (bytes_take size xs (bytes_drop here packet bytes)) out to in
+        ∙ ap (λ (l : List ℕ). sets l (to + header_bytes) (take size xs)) (first ∙ ap (sets out to) (sym (head_none n timestamp (length xs) size (omega (arith, length-drop here packet, inside)))) ∙ ap (λ (m : ℕ). sets out to (head_bytes n timestamp (length xs) m)) (sym long))
+        ∙ outer-stored n v q.number stamp (omega (arith, long)) (bytes_take size xs (bytes_drop here packet bytes)) out to in
         let size_is : length (outer_of n v) ≡ header_bytes + size = length-outer_of n v ∙ ap (λ (m : ℕ). header_bytes + m) long in
-        let count : suc todo - 1 ≡ todo = omega arith in
         record {
           number = omega (arith, next);
-          same = ap length stored ∙ length-sets out to (outer_of n v) ∙ p.same;
-          inside = omega (arith, p.inside, suc-mul todo size, ap (λ (m : ℕ). m * size) count);
-          room = omega (arith, p.room, suc-mul todo (header_bytes + size), ap (λ (m : ℕ). m * (header_bytes + size)) count, ap length stored, length-sets out to (outer_of n v));
+          same = ap length stored ∙ length-sets out to (outer_of n v) ∙ q.same;
+          inside = omega (arith, q.inside, suc-mul more size);
+          room = omega (arith, q.room, suc-mul more (header_bytes + size), ap length stored, length-sets out to (outer_of n v));
           whole =
-              ap (λ (m : ℕ). sets out₂ (to + (header_bytes + size)) (line (outers_at m n' (here + size)))) count
-              ∙ (λ i. sets (stored i) (to + sym size_is i) (line (outers_of todo size (next i) timestamp (running timestamp (sym (drop-drop size here packet) i)))))
-              ∙ sym (sets-append (outer_of n v) (line (outers_of todo size (next_number n) timestamp (running timestamp (drop size xs)))) out to)
-              ∙ p.whole;
+              (λ i. sets (stored i) (to + sym size_is i) (line (outers_of more size (next i) timestamp (running timestamp (sym (drop-drop size here packet) i)))))
+              ∙ sym (sets-append (outer_of n v) (line (outers_of more size (next_number n) timestamp (running timestamp (drop size xs)))) out to)
+              ∙ q.whole;
         }

@@ -5,12 +5,26 @@ use mathlib.Core.List.{List}
 use Prim.Native.Nat.{ℕ, ◌≤◌, ◌<◌}
 use native.Mathlib.Omega.{arith}
 use borrow.Author.Tests.{ltb-true, leb-true, lt-ltb, le-ltb, le-leb, lt-leb}
-use lib.Dec.{ltb, leb, eqb}
+use lib.Dec.{ltb, leb, eqb, lit≤}
 use lib.ListN.{length, take}
 use lib.Seq.{length-take-le}
 use Rattle.octets.proofs.Laws.{either}
 use Rattle.wrapper.specs.declared.Numbers.{Numbers}
-use Rattle.wrapper.specs.Wrap.{least_size, most_size, is_size, writer, left_by, begin_by, waiting_in, joined}
+use Rattle.wrapper.specs.declared.Refusal.{Refusal}
+use Rattle.wrapper.specs.declared.Refusal.TheVariants.{ShortOutput, BadSize, NotCarried}
+use Rattle.std.proofs.Common.{Result, Ok, Err}
+use Rattle.wrapper.specs.Wrap.{least_size, most_size, is_size, writer, left_by, begin_by, refusal_number, wrapped_values, waiting_in, joined}
+
+-- ---- the numbers of answers
+
+pub refusal_within : (a : Refusal) → (1 ≤ refusal_number a) × (refusal_number a ≤ 19)
+refusal_within ShortOutput = (lit≤ tt, lit≤ tt)
+refusal_within BadSize = (lit≤ tt, lit≤ tt)
+refusal_within NotCarried = (lit≤ tt, lit≤ tt)
+
+pub number_most : (a : Result ℕ Refusal) → (wrapped_values a).number ≤ 19
+number_most (Ok n) = lit≤ tt
+number_most (Err a) = (refusal_within a).1
 
 -- ---- a payload's size
 

@@ -9,7 +9,7 @@ use Rattle.rtp.specs.Header.{head_fields}
 use Rattle.packets.specs.Packets.{is_carried}
 use Rattle.packets.specs.Stored.{line}
 use Rattle.tunnel.specs.Outer.{outer_fields, outer_packet}
-use Rattle.wrapper.specs.Wrap.{is_size, Writer, left_by, begin_by, outer_of, outers_of, rest_of, wrapped_values, Result, giving, wrapped, closed}
+use Rattle.wrapper.specs.Wrap.{is_size, Writer, left_by, begin_by, outer_of, outers_of, rest_of, wrapped_values, Outcome, giving, wrapped, closed}
 
 -- a packet of 28 bytes or more
 packet : ℕ → List ℕ
@@ -40,7 +40,7 @@ pub record Sample : Type 0 where
 sample : ℕ → List ℕ → Sample
 sample number writes = record { number = number; writes = writes }
 
-said : Result → Sample
+said : Outcome → Sample
 said u = let v = wrapped_values u.answer in sample v.number (take v.wrote u.output)
 
 wraps : Writer → ℕ → List ℕ → Sample

@@ -1,17 +1,17 @@
 -- The tunnel's writer: its state, one packet or the close, and what that leaves.
-use Rattle.std.specs.Prelude.{ℕ, zero, suc, ◌+◌, ◌/◌, ◌%◌, ◌≡◌, Bool, not, cond, ◌&&◌, List, [], ◌∷◌, ◌++◌, ltb, leb, eqb, length, take, drop}
+use Rattle.std.specs.Prelude.{ℕ, zero, suc, ◌+◌, ◌*◌, ◌/◌, ◌%◌, ◌≡◌, ◌≤◌, ◌<◌, Bool, not, cond, ◌&&◌, List, [], ◌∷◌, ◌++◌, ltb, leb, eqb, length, take, drop, Result, Ok, Err}
 use Rattle.std.proofs.lemmas.List.Edits.{sets}
 use Rattle.octets.specs.Bits.{bytes_of}
 use Rattle.octets.specs.Checks.{check}
-use Rattle.rtp.specs.Header.{sequences}
-use Rattle.packets.specs.Packets.{is_carried}
+use Rattle.rtp.specs.Header.{header_bytes, sequences}
+use Rattle.packets.specs.Packets.{longest_packet, is_carried}
 use Rattle.packets.specs.Stored.{line}
 use Rattle.tunnel.specs.Outer.{stltp, Outer, outer_fields, outer_packet}
 use Rattle.tunnel.specs.Unwrap.{next_number}
 use Rattle.wrapper.specs.declared.Numbers.{Numbers}
+use Rattle.wrapper.specs.declared.Refusal.{Refusal}
+use Rattle.wrapper.specs.declared.Refusal.TheVariants.{ShortOutput, BadSize, NotCarried}
 use Rattle.wrapper.specs.declared.Values.{Values}
-use Rattle.wrapper.specs.declared.Wrapped.{Wrapped}
-use Rattle.wrapper.specs.declared.Wrapped.TheVariants.{Wrote, ShortOutput, BadSize, NotCarried}
 
 -- ---- the limits of a payload's size
 
@@ -37,6 +37,10 @@ writer numbers bytes = record { numbers = numbers; bytes = bytes }
 -- a fresh writer's
 abbrev pub fresh_numbers : ℕ → ℕ → Numbers
 fresh_numbers size first = record { size = size; next = first; left = 0; begin = 0; timestamp = 0 }
+
+-- nothing is left, behind so many outer packets more
+abbrev pub emptied : Numbers → ℕ → Numbers
+emptied m k = record { size = m.size; next = (m.next + k) % sequences; left = 0; begin = 0; timestamp = m.timestamp }
 
 -- ---- bytes that wait for a payload: where in them a packet first begins, their end if none does; and the timestamp of the first of them
 
@@ -105,21 +109,58 @@ rest_of (suc k) size timestamp v = rest_of k size timestamp (running timestamp (
 abbrev pub most_wrapped : ℕ
 most_wrapped = 2824
 
--- ---- an answer in numbers: its number, 0 where it is no refusal; and the bytes written
+-- ---- an answer: how many bytes were written, or why nothing was; and in numbers, its number, 0 where it is no refusal, and the bytes written
 
-abbrev pub values : ℕ → ℕ → Values
-values number wrote = record { number = number; wrote = wrote }
+abbrev pub refusal_number : Refusal → ℕ
+refusal_number ShortOutput = 1
+refusal_number BadSize = 18
+refusal_number NotCarried = 19
 
-abbrev pub wrapped_values : Wrapped → Values
-wrapped_values (Wrote n) = values 0 n
-wrapped_values ShortOutput = values 1 0
-wrapped_values BadSize = values 18 0
-wrapped_values NotCarried = values 19 0
+abbrev pub wrapped_values : Result ℕ Refusal → Values
+wrapped_values (Ok n) = record { number = 0; wrote = n }
+wrapped_values (Err refusal) = record { number = refusal_number refusal; wrote = 0 }
+
+-- ---- what the calls look at first
+
+-- how many payloads a packet fills, where the output has room for these, or why it is refused
+unfoldable pub filled_in : Numbers → List ℕ → ℕ → Result ℕ Refusal
+filled_in m packet room =
+    let full = (left_by m + length packet) / m.size in
+    check (not (is_size m.size)) (Err BadSize)  -- 18
+    (check (not (is_carried packet)) (Err NotCarried)  -- 19
+    (check (ltb room (full * (header_bytes + m.size))) (Err ShortOutput)  -- 1
+    (Ok full)))
+
+-- how many bytes the close takes out
+unfoldable pub last_in : Numbers → ℕ → Result ℕ Refusal
+last_in m room =
+    let left = left_by m in
+    check (not (is_size m.size)) (Err BadSize)  -- 18
+    (check (not (eqb left 0) && ltb room (header_bytes + left)) (Err ShortOutput)  -- 1
+    (Ok left))
+
+-- payloads have a size, and what waits is less than one
+pub record Sized (m : Numbers) : Type 0 where
+  pub least : least_size ≤ m.size
+  pub most : m.size ≤ most_size
+  pub less : left_by m < m.size
+
+-- so many payloads are full with a packet, one or more, and there is room for them
+pub record Fills (m : Numbers) (packet : List ℕ) (space full : ℕ) : Type 0 where
+  pub sized : Sized m
+  pub short : length packet ≤ longest_packet
+  pub is : full ≡ (left_by m + length packet) / m.size
+  pub few : full ≤ left_by m + length packet
+  pub some : 1 ≤ full
+  pub once : m.size ≤ full * m.size
+  pub inside : full * m.size ≤ left_by m + length packet
+  pub most : left_by m + length packet < full * m.size + m.size
+  pub room : full * (header_bytes + m.size) ≤ space
 
 -- ---- the public calls, on a state and a lent output: the answer, both afterwards, and the outer packets that stand end to end at the start of the output
 
-pub record Result : Type 0 where
-  pub answer : Wrapped
+pub record Outcome : Type 0 where
+  pub answer : Result ℕ Refusal
   pub writer : Writer
   pub output : List ℕ
   pub outers : List (List ℕ)
@@ -148,51 +189,50 @@ module _ (w : Writer) where
   last_of v = cond (eqb (length v.bytes) 0) [] (outer_of next v ∷ [])
 
   module _ (output : List ℕ) where
-    abbrev pub unchanged : Wrapped → Result
-    unchanged answer = record { answer = answer; writer = w; output = output; outers = [] }
+    abbrev pub unchanged : Refusal → Outcome
+    unchanged refusal = record { answer = Err refusal; writer = w; output = output; outers = [] }
 
-    abbrev pub given : List (List ℕ) → Waiting → Result
-    given outers v = record { answer = Wrote (length (line outers)); writer = holding (length outers) v; output = sets output 0 (line outers); outers = outers }
+    abbrev pub given : List (List ℕ) → Waiting → Outcome
+    given outers v = record { answer = Ok (length (line outers)); writer = holding (length outers) v; output = sets output 0 (line outers); outers = outers }
 
     -- these outer packets go out, if the output has room for them, and this waits
-    unfoldable pub giving : List (List ℕ) → Waiting → Result
+    unfoldable pub giving : List (List ℕ) → Waiting → Outcome
     giving outers v =
         check (ltb (length output) (length (line outers))) (unchanged ShortOutput)  -- 1
         (given outers v)
 
     -- payloads that are full go out
-    abbrev pub filling : ℕ → Waiting → Result
+    abbrev pub filling : ℕ → Waiting → Outcome
     filling timestamp v = giving (outers_of (full_in v) size next timestamp v) (rest_of (full_in v) size timestamp v)
 
     -- a packet with its timestamp
-    unfoldable pub wrapped : List ℕ → ℕ → Result
+    unfoldable pub wrapped : List ℕ → ℕ → Outcome
     wrapped packet timestamp =
         check (not (is_size size)) (unchanged BadSize)  -- 18
         (check (not (is_carried packet)) (unchanged NotCarried)  -- 19
         (filling timestamp (joined (waiting_in w) packet timestamp)))
 
     -- the close
-    unfoldable pub closed : Result
+    unfoldable pub closed : Outcome
     closed =
         check (not (is_size size)) (unchanged BadSize)  -- 18
         (giving (last_of (waiting_in w)) (running w.numbers.timestamp []))
 
--- what the calls promise: their answer and the numbers, and the memory of what is left and the output after, are those of a result
-pub record Leaves (u : Result) (answer : Wrapped) (numbers : Numbers) (bytes output : List ℕ) : Type 0 where
+-- what the calls promise: their answer and the numbers, and the memory of what is left and the output after, are those of an outcome
+pub record Leaves (u : Outcome) (answer : Result ℕ Refusal) (numbers : Numbers) (bytes output : List ℕ) : Type 0 where
   pub answers : answer ≡ u.answer
   pub holds : writer numbers bytes ≡ u.writer
   pub leaves : output ≡ u.output
 
-abbrev pub WrapSays : Numbers → List ℕ → List ℕ → ℕ → List ℕ → Wrapped → Numbers → List ℕ → List ℕ → Type 0
+abbrev pub WrapSays : Numbers → List ℕ → List ℕ → ℕ → List ℕ → Result ℕ Refusal → Numbers → List ℕ → List ℕ → Type 0
 WrapSays numbers bytes packet timestamp output = Leaves (wrapped (writer numbers bytes) output packet timestamp)
 
--- the same of the outer packets that a packet fills
-abbrev pub FillSays : Numbers → List ℕ → List ℕ → ℕ → List ℕ → Wrapped → Numbers → List ℕ → List ℕ → Type 0
-FillSays numbers bytes packet timestamp output =
+-- the same of so many outer packets that a packet fills
+abbrev pub SendSays : Numbers → List ℕ → List ℕ → ℕ → ℕ → List ℕ → Result ℕ Refusal → Numbers → List ℕ → List ℕ → Type 0
+SendSays numbers bytes packet timestamp full output =
     let v = joined (waiting_in (writer numbers bytes)) packet timestamp in
-    let full = full_in (writer numbers bytes) v in
     let size = numbers.size in
     Leaves (given (writer numbers bytes) output (outers_of full size numbers.next timestamp v) (rest_of full size timestamp v))
 
-abbrev pub CloseSays : Numbers → List ℕ → List ℕ → Wrapped → Numbers → List ℕ → Type 0
+abbrev pub CloseSays : Numbers → List ℕ → List ℕ → Result ℕ Refusal → Numbers → List ℕ → Type 0
 CloseSays numbers bytes output answer numbers' output' = Leaves (closed (writer numbers bytes) output) answer numbers' bytes output'

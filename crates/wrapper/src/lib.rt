@@ -1,12 +1,12 @@
 // The tunnel's writer: inner packets in, the outer packets that they fill out. What fills none is left until the next call, or the close.
 #![tactic(auto)]
 
-ghost use Rattle.std.specs.Prelude.{◌≡◌, cond, ◌+◌, ◌*◌, ◌/◌, ◌%◌, ◌≤◌, ◌<◌, ltb, eqb, length, drop};
+ghost use Rattle.std.specs.Prelude.{◌≡◌, cond, ◌+◌, ◌*◌, ◌/◌, ◌%◌, ◌≤◌, ◌<◌, ltb, eqb, length, drop, Ok};
 ghost use Rattle.std.proofs.lemmas.List.Edits.{sets};
 ghost use Rattle.rtp.specs.Header.{header_bytes, sequences};
 ghost use Rattle.packets.specs.Packets.{longest_packet};
 ghost use Rattle.packets.specs.Stored.{line};
-ghost use Rattle.wrapper.specs.Wrap.{most_size, is_size, writer, fresh_numbers, left_by, begin_by, waiting_in, joined, first_of, running, head_bytes, outer_of, outers_of, holding, wrapped_values, values as Wrap·values, FillSays, WrapSays, CloseSays};
+ghost use Rattle.wrapper.specs.Wrap.{most_size, is_size, writer, fresh_numbers, left_by, begin_by, waiting_in, joined, first_of, running, head_bytes, outer_of, outers_of, holding, refusal_number, wrapped_values, emptied, Sized, Fills, filled_in, last_in, WrapSays, SendSays, CloseSays};
 
 use rtp::HEADER_BYTES;
 
@@ -21,17 +21,27 @@ pub struct Numbers {
     pub timestamp: u32,
 }
 
-// What the writer answers.
-#[derive(Clone, Copy)]
-pub enum Wrapped {
-    // so many bytes of outer packets stand at the start of the output
-    Wrote(usize),
-    // number 1
+// Why the writer refuses a call.
+#[derive(Clone, Copy, Debug, PartialEq, Eq)]
+pub enum Refusal {
     ShortOutput,
-    // number 18: no payload has this size
+    // no payload has this size
     BadSize,
-    // number 19: a packet that may not be carried
+    // a packet that may not be carried
     NotCarried,
+}
+
+// The number of a refusal.
+impl From<Refusal> for u8 {
+    ghost from_gives = { λ refusal number. number ≡ refusal_number refusal };
+
+    fn from(refusal: Refusal) -> u8 {
+        match refusal {
+            Refusal::ShortOutput => 1,
+            Refusal::BadSize => 18,
+            Refusal::NotCarried => 19,
+        }
+    }
 }
 
 // An answer in numbers: its number, 0 where it is no refusal; and the bytes written.
@@ -41,10 +51,10 @@ pub struct Values {
     pub wrote: usize,
 }
 
-// The answer, and the numbers afterwards.
+// The answer, that so many bytes of outer packets stand at the start of the output, or a refusal; and the numbers afterwards.
 #[derive(Clone, Copy)]
 pub struct Given {
-    pub answer: Wrapped,
+    pub answer: Result<usize, Refusal>,
     pub numbers: Numbers,
 }
 
@@ -54,23 +64,15 @@ pub const LEAST_SIZE: usize = 64;
 pub const MOST_SIZE: usize = 1400;
 
 // What an answer says.
-pub fn values_of(answer: Wrapped) -> Values
+pub fn values_of(answer: Result<usize, Refusal>) -> Values
     ensures { result ≡ wrapped_values answer }
 {
     match answer {
-        Wrapped::Wrote(n) => told(0, n),
-        Wrapped::ShortOutput => told(1, 0),
-        Wrapped::BadSize => told(18, 0),
-        Wrapped::NotCarried => told(19, 0),
-    }
-}
-
-fn told(number: u8, wrote: usize) -> Values
-    ensures { result ≡ Wrap·values number wrote }
-{
-    Values {
-        number: number,
-        wrote: wrote,
+        Ok(wrote) => Values { number: 0, wrote },
+        Err(refusal) => Values {
+            number: u8::from(refusal),
+            wrote: 0,
+        },
     }
 }
 
@@ -81,7 +83,7 @@ pub fn fresh(size: usize, first: u16) -> Numbers
     ensures { result ≡ fresh_numbers size first }
 {
     Numbers {
-        size: size,
+        size,
         next: first,
         left: 0,
         begin: 0,
@@ -90,44 +92,62 @@ pub fn fresh(size: usize, first: u16) -> Numbers
 }
 
 // Whether payloads may have this size.
+#[tactic(auto, unfolding(crate::specs::Wrap::is_size))]
 pub fn is_size(size: usize) -> bool
     ensures { result ≡ is_size size }
 {
-    if size < LEAST_SIZE {
-        return false;
-    }
-    size <= MOST_SIZE
+    LEAST_SIZE <= size && size <= MOST_SIZE
 }
 
-// How many bytes are left.
-fn left_by(numbers: Numbers) -> usize
-    ensures { result ≡ left_by numbers }
-{
-    if numbers.left < numbers.size {
-        return numbers.left;
+impl Numbers {
+    // How many bytes wait.
+    #[tactic(auto, unfolding(crate::specs::Wrap::left_by))]
+    fn waiting(self) -> usize
+        ensures { result ≡ left_by self }
+    {
+        if self.left < self.size { self.left } else { 0 }
     }
-    0
+
+    // Where in them a packet first begins; their end, if none does.
+    #[tactic(auto, unfolding(crate::specs::Wrap::begin_by))]
+    fn first_begin(self) -> usize
+        ensures { result ≡ begin_by self }
+    {
+        let end = self.waiting();
+        if self.begin < end { self.begin } else { end }
+    }
+
+    // The timestamp of the first byte that waits, where a call with this one gives more.
+    fn first_stamp(self, timestamp: u32) -> u32
+        ensures { result ≡ cond (eqb (left_by self) 0) timestamp self.timestamp }
+    {
+        if self.waiting() == 0 {
+            timestamp
+        } else {
+            self.timestamp
+        }
+    }
+
+    // Nothing is left, behind k outer packets more.
+    fn emptied(self, k: usize) -> Numbers
+        requires { k < 65536 }
+        ensures { result ≡ emptied self k }
+    {
+        Numbers {
+            next: following(self.next, k),
+            left: 0,
+            begin: 0,
+            ..self
+        }
+    }
 }
 
-// Where in them a packet first begins; their end, if none does.
-fn begin_by(numbers: Numbers) -> usize
-    ensures { result ≡ begin_by numbers }
+// The sequence number behind so many outer packets more.
+fn following(sequence: u16, k: usize) -> u16
+    requires { k < 65536 }
+    ensures { result ≡ (sequence + k) % sequences }
 {
-    let left = left_by(numbers);
-    if numbers.begin < left {
-        return numbers.begin;
-    }
-    left
-}
-
-// The timestamp of the first byte that waits, where a call with this one gives more.
-fn stamp_by(numbers: Numbers, timestamp: u32) -> u32
-    ensures { result ≡ cond (eqb (left_by numbers) 0) timestamp numbers.timestamp }
-{
-    if 0 < left_by(numbers) {
-        return numbers.timestamp;
-    }
-    timestamp
+    ((sequence as usize + k) % 65536) as u16
 }
 
 // ---- outer packets
@@ -136,10 +156,7 @@ fn stamp_by(numbers: Numbers, timestamp: u32) -> u32
 fn mark_by(begin: usize, size: usize) -> u16
     ensures { result ≡ cond (ltb begin size) 0x80E1 0x8061 }
 {
-    if size <= begin {
-        return 0x8061;
-    }
-    0x80E1
+    if size <= begin { 0x8061 } else { 0x80E1 }
 }
 
 // Its packet_offset.
@@ -147,10 +164,7 @@ fn offset_by(begin: usize, size: usize) -> u16
     requires { size ≤ most_size }
     ensures { result ≡ cond (ltb begin size) begin 0 }
 {
-    if begin < size {
-        return begin as u16;
-    }
-    0
+    if begin < size { begin as u16 } else { 0 }
 }
 
 // Puts the header of an outer packet whose payload has this size.
@@ -168,25 +182,16 @@ fn put_header(sequence: u16, timestamp: u32, begin: usize, size: usize, out: &mu
 }
 
 // Puts the outer packet whose payload is what is left and the start of the packet behind it.
-fn put_joined(numbers: Numbers, timestamp: u32, bytes: &[u8], packet: &[u8], out: &mut [u8])
-    requires numbers_bound { (left_by numbers < numbers.size) × (numbers.size ≤ most_size) × (length bytes.now ≡ most_size) }
-    requires size_bound { (numbers.size ≤ left_by numbers + length packet.now) × (header_bytes + numbers.size ≤ length out.old) }
+fn put_joined(numbers: Numbers, timestamp: u32, bytes: &[u8; 1400], packet: &[u8], out: &mut [u8])
+    requires { Sized numbers × (numbers.size ≤ left_by numbers + length packet.now) × (header_bytes + numbers.size ≤ length out.old) }
     ensures { out.new ≡ sets out.old 0 (outer_of numbers.next (first_of numbers.size (joined (waiting_in (writer numbers bytes.now)) packet.now timestamp))) }
 {
-    let left = left_by(numbers);
-    let begin = begin_by(numbers);
-    let stamp = stamp_by(numbers, timestamp);
+    let left = numbers.waiting();
+    let begin = numbers.first_begin();
+    let stamp = numbers.first_stamp(timestamp);
     put_header(numbers.next, stamp, begin, numbers.size, out, 0);
     copies::put(out, HEADER_BYTES, bytes, 0, left);
     copies::put(out, HEADER_BYTES + left, packet, 0, numbers.size - left);
-}
-
-// The sequence number behind so many outer packets more.
-fn following(sequence: u16, k: usize) -> u16
-    requires { k < 65536 }
-    ensures { result ≡ (sequence + k) % sequences }
-{
-    ((sequence as usize + k) % 65536) as u16
 }
 
 // Puts k outer packets with payloads from a place of the packet on, in which none begins.
@@ -203,15 +208,13 @@ fn put_later(
     requires { (size ≤ most_size) × (from + k * size ≤ length packet.now) × (at + k * (header_bytes + size) ≤ length out.old) }
     ensures { out.new ≡ sets out.old at (line (outers_of k size sequence timestamp (running timestamp (drop from packet.now)))) }
 {
-    let mut todo = k;
-    let mut n = sequence;
+    let mut next = sequence;
     let mut here = from;
     let mut to = at;
-    while 0 < todo {
-        put_header(n, timestamp, size, size, out, to);
+    for _ in 0..k {
+        put_header(next, timestamp, size, size, out, to);
         copies::put(out, to + HEADER_BYTES, packet, here, size);
-        todo -= 1;
-        n = following(n, 1);
+        next = following(next, 1);
         here += size;
         to += HEADER_BYTES + size;
     }
@@ -220,20 +223,19 @@ fn put_later(
 // ---- the calls
 
 // The packet fills no payload: it is left, behind what was.
-fn keep(numbers: Numbers, bytes: &mut [u8], packet: &[u8], timestamp: u32) -> Given
-    requires { (left_by numbers + length packet.now < numbers.size) × (numbers.size ≤ most_size) × (length bytes.old ≡ most_size) }
-    ensures { (result.answer ≡ Wrapped.Wrote 0) × (writer result.numbers bytes.new ≡ holding (writer numbers bytes.old) 0 (joined (waiting_in (writer numbers bytes.old)) packet.now timestamp)) }
+fn keep(numbers: Numbers, bytes: &mut [u8; 1400], packet: &[u8], timestamp: u32) -> Given
+    requires { Sized numbers × (left_by numbers + length packet.now < numbers.size) }
+    ensures { (result.answer ≡ Ok 0) × (writer result.numbers bytes.new ≡ holding (writer numbers bytes.old) 0 (joined (waiting_in (writer numbers bytes.old)) packet.now timestamp)) }
 {
-    let left = left_by(numbers);
+    let left = numbers.waiting();
     copies::put(bytes, left, packet, 0, packet.len());
     Given {
-        answer: Wrapped::Wrote(0),
+        answer: Ok(0),
         numbers: Numbers {
-            size: numbers.size,
-            next: numbers.next,
             left: left + packet.len(),
-            begin: begin_by(numbers),
-            timestamp: stamp_by(numbers, timestamp),
+            begin: numbers.first_begin(),
+            timestamp: numbers.first_stamp(timestamp),
+            ..numbers
         },
     }
 }
@@ -242,18 +244,16 @@ fn keep(numbers: Numbers, bytes: &mut [u8], packet: &[u8], timestamp: u32) -> Gi
 fn send(
     numbers: Numbers,
     full: usize,
-    bytes: &mut [u8],
+    bytes: &mut [u8; 1400],
     packet: &[u8],
     timestamp: u32,
     out: &mut [u8],
 ) -> Given
-    requires numbers_bound { (left_by numbers < numbers.size) × (numbers.size ≤ most_size) × (length bytes.old ≡ most_size) × (length packet.now ≤ longest_packet) }
-    requires le_full { (1 ≤ full) × (full ≡ (left_by numbers + length packet.now) / numbers.size) × (full * (header_bytes + numbers.size) ≤ length out.old) }
-    requires full_bound { (full ≤ left_by numbers + length packet.now) × (numbers.size ≤ full * numbers.size) × (full * numbers.size ≤ left_by numbers + length packet.now) × (left_by numbers + length packet.now < full * numbers.size + numbers.size) }
-    ensures { FillSays numbers bytes.old packet.now timestamp out.old result.answer result.numbers bytes.new out.new }
+    requires { Fills numbers packet.now (length out.old) full }
+    ensures { SendSays numbers bytes.old packet.now timestamp full out.old result.answer result.numbers bytes.new out.new }
 {
     let size = numbers.size;
-    let left = left_by(numbers);
+    let left = numbers.waiting();
     put_joined(numbers, timestamp, bytes, packet, out);
     put_later(
         full - 1,
@@ -269,108 +269,61 @@ fn send(
     let rest = packet.len() - from;
     copies::put(bytes, 0, packet, from, rest);
     Given {
-        answer: Wrapped::Wrote(full * (HEADER_BYTES + size)),
+        answer: Ok(full * (HEADER_BYTES + size)),
         numbers: Numbers {
-            size: size,
+            size,
             next: following(numbers.next, full),
             left: rest,
             begin: rest,
-            timestamp: timestamp,
+            timestamp,
         },
     }
 }
 
-// A refusal changes nothing.
-fn refuse(answer: Wrapped, numbers: Numbers) -> Given
-    ensures { (result.answer ≡ answer) × (result.numbers ≡ numbers) }
-{
-    Given {
-        answer: answer,
-        numbers: numbers,
-    }
-}
-
-// How many payloads of a size so many bytes fill; the processor divides numbers of 32 bits faster than greater ones.
+// How many payloads of a size so many bytes fill: mostly none; and the processor divides numbers of 32 bits faster than greater ones.
 fn full_in(n: usize, size: usize) -> usize
     requires { (n < 65536) × (1 ≤ size) × (size < 65536) }
     ensures { result ≡ n / size }
 {
-    (n as u32 / size as u32) as usize
+    if n < size {
+        0
+    } else {
+        (n as u32 / size as u32) as usize
+    }
 }
 
-// A packet, with the memory of what is left as a slice.
-fn wrap_in(
-    numbers: Numbers,
-    bytes: &mut [u8],
-    packet: &[u8],
-    timestamp: u32,
-    out: &mut [u8],
-) -> Given
-    requires { length bytes.old ≡ most_size }
-    ensures { WrapSays numbers bytes.old packet.now timestamp out.old result.answer result.numbers bytes.new out.new }
+// How many payloads a packet fills, by the checks in their order: the output has room for these.
+#[tactic(auto, unfolding(crate::specs::Wrap::filled_in))]
+fn filled_in(numbers: Numbers, packet: &[u8], room: usize) -> Result<usize, Refusal>
+    ensures { result ≡ filled_in numbers packet.now room }
 {
-    let sized = is_size(numbers.size);
-    let carried = packets::is_carried(packet);
-    if !sized {
-        return refuse(Wrapped::BadSize, numbers);
+    let size = numbers.size;
+    if !is_size(size) {
+        return Err(Refusal::BadSize);
     }
-    if !carried {
-        return refuse(Wrapped::NotCarried, numbers);
+    if !packets::is_carried(packet) {
+        return Err(Refusal::NotCarried);
     }
-    let n = left_by(numbers) + packet.len();
-    if n < numbers.size {
-        return keep(numbers, bytes, packet, timestamp);
+    let full = full_in(numbers.waiting() + packet.len(), size);
+    if room < full * (HEADER_BYTES + size) {
+        return Err(Refusal::ShortOutput);
     }
-    let full = full_in(n, numbers.size);
-    if out.len() < full * (HEADER_BYTES + numbers.size) {
-        return refuse(Wrapped::ShortOutput, numbers);
-    }
-    send(numbers, full, bytes, packet, timestamp, out)
+    Ok(full)
 }
 
-// Nothing is left, behind k outer packets more, of so many bytes.
-fn emptied(numbers: Numbers, k: usize, wrote: usize) -> Given
-    requires { k < 65536 }
-    ensures { (result.answer ≡ Wrapped.Wrote wrote) × (result.numbers ≡ record { size = numbers.size; next = (numbers.next + k) % sequences; left = 0; begin = 0; timestamp = numbers.timestamp }) }
-{
-    Given {
-        answer: Wrapped::Wrote(wrote),
-        numbers: Numbers {
-            size: numbers.size,
-            next: following(numbers.next, k),
-            left: 0,
-            begin: 0,
-            timestamp: numbers.timestamp,
-        },
-    }
-}
-
-// The close, likewise.
-fn close_in(numbers: Numbers, bytes: &[u8], out: &mut [u8]) -> Given
-    requires { length bytes.now ≡ most_size }
-    ensures { CloseSays numbers bytes.now out.old result.answer result.numbers out.new }
+// How many bytes the close takes out, likewise.
+#[tactic(auto, unfolding(crate::specs::Wrap::last_in))]
+fn last_in(numbers: Numbers, room: usize) -> Result<usize, Refusal>
+    ensures { result ≡ last_in numbers room }
 {
     if !is_size(numbers.size) {
-        let answer = Wrapped::BadSize;
-        return refuse(answer, numbers);
+        return Err(Refusal::BadSize);
     }
-    let left = left_by(numbers);
-    if left == 0 {
-        return emptied(numbers, 0, 0);
+    let left = numbers.waiting();
+    if left != 0 && room < HEADER_BYTES + left {
+        return Err(Refusal::ShortOutput);
     }
-    if out.len() < HEADER_BYTES + left {
-        return refuse(Wrapped::ShortOutput, numbers);
-    }
-    put_header(
-        numbers.next,
-        numbers.timestamp,
-        begin_by(numbers),
-        left,
-        out,
-        0,
-    );
-    copies::put(out, HEADER_BYTES, bytes, 0, left);
-    emptied(numbers, 1, HEADER_BYTES + left)
+    Ok(left)
 }
 
 // Writes a packet: the outer packets that it fills go to the start of the output. The memory of what is left is lent in place, from call to call.
@@ -383,14 +336,37 @@ pub fn wrap(
 ) -> Given
     ensures { WrapSays numbers bytes.old packet.now timestamp out.old result.answer result.numbers bytes.new out.new }
 {
-    let memory: &mut [u8] = bytes;
-    wrap_in(numbers, memory, packet, timestamp, out)
+    match filled_in(numbers, packet, out.len()) {
+        Ok(0) => keep(numbers, bytes, packet, timestamp),
+        Ok(full) => send(numbers, full, bytes, packet, timestamp, out),
+        Err(refusal) => Given {
+            answer: Err(refusal),
+            numbers,
+        },
+    }
 }
 
 // Closes: what is left, if anything, goes to the start of the output as one shorter outer packet.
 pub fn close(numbers: Numbers, bytes: &[u8; 1400], out: &mut [u8]) -> Given
     ensures { CloseSays numbers bytes.now out.old result.answer result.numbers out.new }
 {
-    let memory: &[u8] = bytes;
-    close_in(numbers, memory, out)
+    match last_in(numbers, out.len()) {
+        Ok(0) => Given {
+            answer: Ok(0),
+            numbers: numbers.emptied(0),
+        },
+        Ok(left) => {
+            let begin = numbers.first_begin();
+            put_header(numbers.next, numbers.timestamp, begin, left, out, 0);
+            copies::put(out, HEADER_BYTES, bytes, 0, left);
+            Given {
+                answer: Ok(HEADER_BYTES + left),
+                numbers: numbers.emptied(1),
+            }
+        }
+        Err(why) => Given {
+            answer: Err(why),
+            numbers,
+        },
+    }
 }

@@ -14,8 +14,9 @@ use Rattle.rtp.specs.Header.{header_bytes}
 use Rattle.packets.specs.Packets.{is_carried}
 use Rattle.packets.specs.Stored.{line}
 use Rattle.reports.specs.Reports.{longest_report}
-use Rattle.wrapper.specs.declared.Wrapped.TheVariants.{BadSize}
-use Rattle.wrapper.specs.Wrap.{is_size, Writer, Waiting, waiting_in, outer_of, full_in, last_of, Result, unchanged, giving, wrapped, closed}
+use Rattle.wrapper.specs.declared.Refusal.{Refusal}
+use Rattle.wrapper.specs.declared.Refusal.TheVariants.{BadSize}
+use Rattle.wrapper.specs.Wrap.{is_size, Writer, Waiting, waiting_in, outer_of, full_in, last_of, Outcome, unchanged, giving, wrapped, closed}
 use Rattle.wrapper.proofs.Laws.{size-within}
 use Rattle.wrapper.proofs.Outers.{length-outer_of}
 use Rattle.wrapper.proofs.Answers.{carried_most}
@@ -31,7 +32,7 @@ output_long = omega (arith, length-replicate {A = ℕ} longest_output 0)
 
 -- ---- two results that differ in the output only
 
-pub record Alike (u v : Result) : Type 0 where
+pub record Alike (u v : Outcome) : Type 0 where
   pub answer : u.answer ≡ v.answer
   pub writer : u.writer ≡ v.writer
   pub outers : u.outers ≡ v.outers
@@ -41,7 +42,7 @@ module _ (w : Writer) (o p : List ℕ) where
   unfolding giving
   giving_alike outers v h k = rw (le-ltb (length o) (length (line outers)) h, le-ltb (length p) (length (line outers)) k) (record { answer = refl; writer = refl; outers = refl })
 
-  sized_alike : (u v : Result) → (is_size w.numbers.size ≡ true → Alike u v) → Alike (check (not (is_size w.numbers.size)) (unchanged w o BadSize) u) (check (not (is_size w.numbers.size)) (unchanged w p BadSize) v)
+  sized_alike : (u v : Outcome) → (is_size w.numbers.size ≡ true → Alike u v) → Alike (check (not (is_size w.numbers.size)) (unchanged w o BadSize) u) (check (not (is_size w.numbers.size)) (unchanged w p BadSize) v)
   sized_alike u v like = either (is_size w.numbers.size) (λ t. rw t (like t)) (λ t. rw t (record { answer = refl; writer = refl; outers = refl }))
 
 -- ---- a packet
@@ -72,7 +73,7 @@ module _ (w : Writer) (packet : List ℕ) (timestamp : ℕ) where
 
     write_room : length (wrapped w output packet timestamp).outers * (record_head_bytes + each) ≤ room
     write_room =
-        write_cases w output (λ u. length u.outers * (record_head_bytes + each) ≤ room) (λ a r. omega arith) packet timestamp
+        write_cases w output (λ u. length u.outers * (record_head_bytes + each) ≤ room) (λ a. omega arith) packet timestamp
         (λ s c fits. rw (length-outers (full_in w v) size w.numbers.next timestamp v) (full_room s c))
 
     pub write-records : length (outer_records (wrapped w output packet timestamp).outers) ≤ longest_output - longest_report
@@ -80,7 +81,7 @@ module _ (w : Writer) (packet : List ℕ) (timestamp : ℕ) where
         omega (arith, length-records_even each (wrapped w output packet timestamp).outers (write-outers_full w output packet timestamp), write_room)
 
     pub write-size : (wrapped w output packet timestamp).writer.numbers.size ≡ w.numbers.size
-    write-size = write_cases w output (λ u. u.writer.numbers.size ≡ size) (λ a r. refl) packet timestamp (λ s c fits. refl)
+    write-size = write_cases w output (λ u. u.writer.numbers.size ≡ size) (λ a. refl) packet timestamp (λ s c fits. refl)
 
   pub write_alike : (o p : List ℕ) → longest_output ≤ length o → longest_output ≤ length p → Alike (wrapped w o packet timestamp) (wrapped w p packet timestamp)
   unfolding wrapped

@@ -2,6 +2,7 @@
 use mathlib.Core.Path.{◌≡◌, refl, sym, ap, ap₂, ◌∙◌}
 use mathlib.Core.Bool.{true, false, true≢false}
 use mathlib.Core.List.{List, flat_map}
+use Rattle.std.proofs.Common.{Result}
 use Prim.Native.Nat.{ℕ, ◌+◌, ◌*◌, ◌-◌, ◌/◌, ◌≤◌}
 use native.Mathlib.Nat.{add-zero, mul-le-mul_left, div-mul-le_self}
 use native.Mathlib.Omega.{arith}
@@ -29,9 +30,9 @@ use Rattle.reports.specs.Reports.{following, said, report_line, longest_report}
 use Rattle.reports.proofs.Laws.{length-report}
 use Rattle.wrapper.specs.declared.Numbers.{Numbers}
 use Rattle.wrapper.specs.declared.Values.{Values}
-use Rattle.wrapper.specs.declared.Wrapped.{Wrapped}
-use Rattle.wrapper.specs.declared.Wrapped.TheVariants.{Wrote, ShortOutput, BadSize, NotCarried}
-use Rattle.wrapper.specs.Wrap.{most_size, Writer, writer, wrapped_values, Result, wrapped, WrapSays, closed, CloseSays}
+use Rattle.wrapper.specs.declared.Refusal.{Refusal}
+use Rattle.wrapper.proofs.Laws.{number_most}
+use Rattle.wrapper.specs.Wrap.{most_size, Writer, writer, wrapped_values, Outcome, wrapped, WrapSays, closed, CloseSays}
 use Rattle.round_trip.specs.Calls.{EndToEnd}
 use Rattle.round_trip.proofs.Results.{write_end_to_end, write-outers_full, close_end_to_end, close-outers-short}
 use Rattle.wrapping.specs.Wrapping.{stamp_bytes, wrap_form, State, state, record_head_bytes, outer_records, cut_into, is_stamp, stamp_in, longest_output, long_output, call, closing, next_state, wrap_channels, FedTo}
@@ -55,7 +56,7 @@ stamp_taken n xs h =
 -- ---- a packet, and the close, with a scratch that is long enough
 
 -- what stands end to end at the start of an output is no longer than that
-wrote_inside : (output : List ℕ) (u : Result) → EndToEnd output u → (wrapped_values u.answer).wrote ≤ length u.output
+wrote_inside : (output : List ℕ) (u : Outcome) → EndToEnd output u → (wrapped_values u.answer).wrote ≤ length u.output
 wrote_inside output u e = omega (arith, e.0, ap length e.1, length-take (wrapped_values u.answer).wrote u.output)
 
 module _ (m : Numbers) (bytes scratch : List ℕ) (most : m.size ≤ most_size) (long : longest_output ≤ length scratch) where
@@ -65,11 +66,11 @@ module _ (m : Numbers) (bytes scratch : List ℕ) (most : m.size ≤ most_size) 
   abbrev each : ℕ
   each = header_bytes + m.size
 
-  module _ (packet : List ℕ) (stamp count : ℕ) (a : Wrapped) (m' : Numbers) (bytes' scratch' : List ℕ) (says : WrapSays m bytes packet stamp scratch a m' bytes' scratch') (v : Values) (is : v ≡ wrapped_values a) where
+  module _ (packet : List ℕ) (stamp count : ℕ) (a : Result ℕ Refusal) (m' : Numbers) (bytes' scratch' : List ℕ) (says : WrapSays m bytes packet stamp scratch a m' bytes' scratch') (v : Values) (is : v ≡ wrapped_values a) where
     abbrev s : State
     s = state m bytes stamp count
 
-    abbrev u : Result
+    abbrev u : Outcome
     u = wrapped w scratch packet stamp
 
     like : Alike u (call s packet)
@@ -113,8 +114,8 @@ module _ (m : Numbers) (bytes scratch : List ℕ) (most : m.size ≤ most_size) 
           tells = put_same report line (ap₂ (λ (k : ℕ) (x : Values). report_line (text "IP") k (said x.number false 0 0)) next (same ∙ ap wrapped_values like.answer)) put;
         }
 
-  module _ (a : Wrapped) (m' : Numbers) (scratch' : List ℕ) (says : CloseSays m bytes scratch a m' scratch') (v : Values) (is : v ≡ wrapped_values a) where
-    abbrev last : Result
+  module _ (a : Result ℕ Refusal) (m' : Numbers) (scratch' : List ℕ) (says : CloseSays m bytes scratch a m' scratch') (v : Values) (is : v ≡ wrapped_values a) where
+    abbrev last : Outcome
     last = closed w scratch
 
     last_like : Alike last (closing w)
@@ -191,18 +192,12 @@ module _ (file : List ℕ) (at size : ℕ) (stands : Whole size ≡ entry_in wra
 
 -- ---- many records
 
-number_small : (a : Wrapped) → (wrapped_values a).number ≤ 19
-number_small (Wrote n) = lit≤ tt
-number_small ShortOutput = lit≤ tt
-number_small BadSize = lit≤ tt
-number_small NotCarried = lit≤ tt
-
 pub both_fit : Room wrap_channels
 both_fit s r =
     let packet : List ℕ = body_in r in
-    let u : Result = call s packet in
+    let u : Outcome = call s packet in
     let said-short : length (report_line (text "IP") (following s.count) (said (wrapped_values u.answer).number false 0 0)) ≤ longest_report =
-    length-report (text "IP") (following s.count) (wrapped_values u.answer).number false 0 0 (lit≤ tt) (omega arith) (omega (arith, number_small u.answer)) (omega arith) (omega arith) in
+    length-report (text "IP") (following s.count) (wrapped_values u.answer).number false 0 0 (lit≤ tt) (omega arith) (omega (arith, number_most u.answer)) (omega arith) (omega arith) in
     either (is_stamp r) (λ t. rw t (omega arith))
     (λ t. rw t (omega (arith, said-short, write-records s.writer packet s.stamp long_output)))
 

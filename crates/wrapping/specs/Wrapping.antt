@@ -9,7 +9,7 @@ use Rattle.records.specs.Channels.{Channels}
 use Rattle.packets.specs.Packets.{shortest_packet, longest_packet}
 use Rattle.reports.specs.Reports.{said, report_line, following}
 use Rattle.wrapper.specs.declared.Numbers.{Numbers}
-use Rattle.wrapper.specs.Wrap.{Writer, writer, wrapped_values, Result, wrapped, closed}
+use Rattle.wrapper.specs.Wrap.{Writer, writer, wrapped_values, Outcome, wrapped, closed}
 
 -- TI with the timestamp from here on; IP with a packet, of a length within its limits
 abbrev pub stamp_bytes : ℕ
@@ -67,10 +67,10 @@ longest_output = 4096
 unfoldable pub long_output : List ℕ
 long_output = replicate longest_output 0
 
-abbrev pub call : State → List ℕ → Result
+abbrev pub call : State → List ℕ → Outcome
 call s packet = wrapped s.writer long_output packet s.stamp
 
-abbrev pub closing : Writer → Result
+abbrev pub closing : Writer → Outcome
 closing w = closed w long_output
 
 -- ---- a record: the state that it leaves, its outer packets for standard output, and its line of the report for standard error

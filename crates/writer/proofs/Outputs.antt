@@ -22,7 +22,7 @@ use Rattle.meaning.proofs.Plain.{length-plain}
 use Rattle.segments.specs.Segment.{segment_bytes, payload_bytes}
 use Rattle.segments.specs.Cut.{segment_count, joined}
 use Rattle.segments.proofs.Cut.{length_cut, cut_whole}
-use Rattle.writer.specs.declared.Written.TheVariants.{Segments}
+use Rattle.std.proofs.Common.{Ok}
 use Rattle.chunk_puts.specs.Laid.{chunk_laid}
 use Rattle.segment_puts.specs.Laid.{segments_laid}
 use Rattle.writer.specs.Writing.{shortest_output, plainly, plain_segments, WriteSays}
@@ -84,7 +84,7 @@ module _ (k : Kind) (xs before : List ℕ) (bytes : Bytes xs) (space : shortest_
   sent = cut_put k w before (omega (arith, length-plain k l held)) wire_room space (bytes-wire (plain k l)) wire-kind.0 wire-kind.1
 
   -- what the code has put: the stuffing, the chunk, and m segments
-  pub written_says : (m : ℕ) (fill put after : List ℕ) → m ≡ segment_count (plain_length (list_said xs)) → fill ≡ sets before (payload_bytes * (m - 1)) (stuffing payload_bytes) → put ≡ sets fill 0 (chunk_laid k xs) → after ≡ sets put 0 (segments_laid k (m - 1) put 0 (m - 1 + 1)) → WriteSays xs k before (Segments m) after
+  pub written_says : (m : ℕ) (fill put after : List ℕ) → m ≡ segment_count (plain_length (list_said xs)) → fill ≡ sets before (payload_bytes * (m - 1)) (stuffing payload_bytes) → put ≡ sets fill 0 (chunk_laid k xs) → after ≡ sets put 0 (segments_laid k (m - 1) put 0 (m - 1 + 1)) → WriteSays xs k before (Ok m) after
   written_says m fill put after e stuffed chunk stored =
       let same : m ≡ n = e ∙ sym (ap segment_count (length-plain k l held)) in
       let s = plain_segments k l in
@@ -97,4 +97,4 @@ module _ (k : Kind) (xs before : List ℕ) (bytes : Bytes xs) (space : shortest_
       ∙ sent
       ∙ ap (λ (i : ℕ). joined s ++ drop (segment_bytes * i) before) (sym same ∙ count) in
       let says = says_written xs k before (checks_written xs before space fits room) in
-      record { answers = ap Segments count ∙ says.answers; leaves = left ∙ says.leaves }
+      record { answers = ap Ok count ∙ says.answers; leaves = left ∙ says.leaves }

@@ -1,5 +1,5 @@
 -- Document 01, "The writer": its checks in order, what it answers, and what it leaves in the lent output.
-use Rattle.std.specs.Prelude.{ℕ, ◌-◌, ◌*◌, ◌≡◌, not, List, ◌++◌, ltb, length, drop, replicate}
+use Rattle.std.specs.Prelude.{ℕ, ◌-◌, ◌*◌, ◌≡◌, not, List, ◌++◌, ltb, length, drop, replicate, Result, Ok, Err}
 use Rattle.octets.specs.Checks.{check}
 use Rattle.meaning.specs.declared.Kind.{Kind}
 use Rattle.meaning.specs.Sizes.{longest_chunk}
@@ -11,8 +11,6 @@ use Rattle.segments.specs.Segment.{segment_bytes, payload_bytes, most_segments}
 use Rattle.segments.specs.Cut.{segment_count, Choice, cut, joined}
 use Rattle.writer.specs.declared.Unwritten.{Unwritten}
 use Rattle.writer.specs.declared.Unwritten.TheVariants.{ShortOutput, BadListing, TooMany}
-use Rattle.writer.specs.declared.Written.{Written}
-use Rattle.writer.specs.declared.Written.TheVariants.{Segments, Refused}
 
 -- the shortest output: room for the 16 segments of the longest chunk
 abbrev pub shortest_output : ℕ
@@ -26,25 +24,20 @@ unwritten_number ShortOutput = 1
 unwritten_number BadListing = 13
 unwritten_number TooMany = 14
 
--- what the writer's checks find
-pub data WriteChecked : Type 0 where
-  Fine : WriteChecked
-  Fault : Unwritten → WriteChecked
-
 -- ---- an answer in document 01's numbers: its number, 0 where it is no refusal; how many segments, 0 where it is one
 
 pub record WrittenValues : Type 0 where
   pub number : ℕ
   pub count : ℕ
 
-abbrev pub written_values : Written → WrittenValues
-written_values (Segments n) = record { number = 0; count = n }
-written_values (Refused f) = record { number = unwritten_number f; count = 0 }
+abbrev pub written_values : Result ℕ Unwritten → WrittenValues
+written_values (Ok n) = record { number = 0; count = n }
+written_values (Err f) = record { number = unwritten_number f; count = 0 }
 
 -- and whether it is a refusal, as checks say it
-abbrev pub written_fault : Written → WriteChecked
-written_fault (Segments n) = Fine
-written_fault (Refused f) = Fault f
+abbrev pub written_fault : Result ℕ Unwritten → Result Unit Unwritten
+written_fault (Ok n) = Ok tt
+written_fault (Err f) = Err f
 
 -- ---- the segments of a list
 
@@ -58,29 +51,29 @@ plain_segments k l = cut (wire (plain k l)) (plainly (length (wire (plain k l)))
 
 -- ---- the public call, on a listing xs, a kind and a lent output
 
-abbrev pub write_checks : List ℕ → List ℕ → WriteChecked
+abbrev pub write_checks : List ℕ → List ℕ → Result Unit Unwritten
 write_checks xs output =
-    check (ltb (length output) shortest_output) (Fault ShortOutput)  -- 1
-    (check (not (listing_fits xs)) (Fault BadListing)  -- 13
-    (check (ltb longest_chunk (plain_length (list_said xs))) (Fault TooMany)  -- 14
-    Fine))
+    check (ltb (length output) shortest_output) (Err ShortOutput)  -- 1
+    (check (not (listing_fits xs)) (Err BadListing)  -- 13
+    (check (ltb longest_chunk (plain_length (list_said xs))) (Err TooMany)  -- 14
+    (Ok tt)))
 
-abbrev pub written_for : WriteChecked → List ℕ → Kind → Written
-written_for Fine xs k = Segments (length (plain_segments k (list_said xs)))
-written_for (Fault f) xs k = Refused f
+abbrev pub written_for : Result Unit Unwritten → List ℕ → Kind → Result ℕ Unwritten
+written_for (Ok u) xs k = Ok (length (plain_segments k (list_said xs)))
+written_for (Err f) xs k = Err f
 
-unfoldable pub write_answer : List ℕ → Kind → List ℕ → Written
+unfoldable pub write_answer : List ℕ → Kind → List ℕ → Result ℕ Unwritten
 write_answer xs k output = written_for (write_checks xs output) xs k
 
 -- the segments at the start, bytes past them as they were; a refusal leaves all as it was
-abbrev pub output_left : Written → List ℕ → Kind → List ℕ → List ℕ
-output_left (Segments n) xs k output = joined (plain_segments k (list_said xs)) ++ drop (segment_bytes * n) output
-output_left (Refused f) xs k output = output
+abbrev pub output_left : Result ℕ Unwritten → List ℕ → Kind → List ℕ → List ℕ
+output_left (Ok n) xs k output = joined (plain_segments k (list_said xs)) ++ drop (segment_bytes * n) output
+output_left (Err f) xs k output = output
 
 unfoldable pub write_output : List ℕ → Kind → List ℕ → List ℕ
 write_output xs k output = output_left (write_answer xs k output) xs k output
 
 -- what the writer promises: of the listing xs, the kind and the output before, its answer, and the output after
-pub record WriteSays (xs : List ℕ) (k : Kind) (before : List ℕ) (answer : Written) (after : List ℕ) : Type 0 where
+pub record WriteSays (xs : List ℕ) (k : Kind) (before : List ℕ) (answer : Result ℕ Unwritten) (after : List ℕ) : Type 0 where
   pub answers : answer ≡ write_answer xs k before
   pub leaves : after ≡ write_output xs k before

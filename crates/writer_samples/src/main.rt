@@ -11,7 +11,7 @@ use meaning::{
 };
 use segments::{MOST_SEGMENTS, PAYLOAD_BYTES, SEGMENT_BYTES};
 use std::io::Write;
-use writer::Written;
+use writer::Unwritten;
 
 // The shortest output that is long enough, and the whole space that it is lent from.
 const ENOUGH: usize = 592;
@@ -28,17 +28,17 @@ fn bytes_of(segments: usize) -> usize {
     segments * SEGMENT_BYTES
 }
 
-fn say_answer<W: Write>(to: &mut W, answer: Written, out: &[u8]) {
+fn say_answer<W: Write>(to: &mut W, answer: Result<usize, Unwritten>, out: &[u8]) {
     let mut length = 0;
     match answer {
-        Written::Segments(n) => {
+        Ok(n) => {
             tell::say_number(to, 0);
             tell::say_number(to, n as u64);
             tell::say(to, b" ");
             length = bytes_of(n);
             tell::say_hex(to, out, length);
         }
-        Written::Refused(refusal) => tell::say_number(to, writer::unwritten_number(refusal) as u64),
+        Err(refusal) => tell::say_number(to, u8::from(refusal) as u64),
     }
     tell::say_kept(to, out, length, BEFORE);
 }

@@ -30,7 +30,7 @@ bounds-chunk-4 c = simp length-set (omega (arith, length-chunk c.args.kind c.arg
 
 pub returns : goal.returns
 returns c = let a = c.args in
-    chunk-stored a.kind a.listing.now a.chunk.now _ _ c.current_of.ensures c.put_ensembles.ensures
+    chunk-stored a.kind a.listing.now a.chunk.now _ _ c.from.ensures c.put_ensembles.ensures
 
 pub put_ensembles-requires-clause-listing_value : goal.put_ensembles-requires-clause-listing_value
 put_ensembles-requires-clause-listing_value c = (listing-passes c.args.listing.now c.requires.listing_value).1

@@ -6,9 +6,9 @@ use Rattle.lines.specs.Lines.{refusal_line}
 use Rattle.explain_lines.specs.Lines.{checked_line}
 use Rattle.explain_lines.proofs.put_checked.Goals as goal
 
-pub returns-in-Fine : goal.returns-in-Fine
-returns-in-Fine c = put_same c.args.out.now c.args.to (ap checked_line (sym c.in-Fine.is)) c.put_text.ensures
+pub returns-in-Ok : goal.returns-in-Ok
+returns-in-Ok c = put_same c.args.out.now c.args.to (ap checked_line (sym c.in-Ok.is)) c.put_text.ensures
 
-pub returns-in-Fault : goal.returns-in-Fault
-returns-in-Fault c = let a = c.args in
-    put_same a.out.now a.to (ap checked_line (sym c.in-Fault.is)) (put_both (text "CH ") (refusal_line c.in-Fault.refusal) a.out.now a.to c.put_text-at.ensures c.put_refusal.ensures)
+pub returns-in-Err : goal.returns-in-Err
+returns-in-Err c = let a = c.args in
+    put_same a.out.now a.to (ap checked_line (sym c.in-Err.is)) (put_both (text "CH ") (refusal_line c.in-Err.refusal) a.out.now a.to c.put_text-at.ensures c.put_refusal.ensures)

@@ -1,4 +1,4 @@
--- `explains::first_differing` meets its contract. The loop's invariant: the place that is sought lies so far behind place i as the rest of both makes it; the measure is what is left.
+-- `explains::first_differing` meets its contract. The loop's invariant: the place that is sought lies so far behind place i as the rest of both makes it.
 -- Assumes nothing.
 use mathlib.Core.Path.{◌≡◌, sym, ap, ◌∙◌}
 use mathlib.Core.List.{List}
@@ -48,23 +48,23 @@ module _ (seg bytes : List ℕ) (from i : ℕ) (whole : length seg ≡ segment_b
     agrees e = same_there (payload_in seg) there i inside near (own ∙ sym e ∙ sym other)
 
 pub loop-i-init : goal.loop-i-init
-loop-i-init c = (omega arith, zero-add _)
+loop-i-init c = zero-add _
 
 pub returns-then-bytes-place : goal.returns-then-bytes-place
 returns-then-bytes-place c = let a = c.args in
     let l = c.loop-i in
-    record { value = sym (sym l.invariant.1 ∙ ap (λ (n : ℕ). l.i + n) (none a.seg.now a.bytes.now a.from l.i c.requires.0 (omega arith) c.if-bytes-place.true) ∙ add-zero l.i); upper_bound = omega arith }
+    record { value = sym (sym l.invariant ∙ ap (λ (n : ℕ). l.i + n) (none a.seg.now a.bytes.now a.from l.i c.requires.0 (omega arith) c.if-bytes-place.true) ∙ add-zero l.i); upper_bound = omega arith }
 
 pub returns-then-bytes-place-2 : goal.returns-then-bytes-place-2
 returns-then-bytes-place-2 c = let a = c.args in
     let l = c.loop-i in
-    record { value = sym (sym l.invariant.1 ∙ ap (λ (n : ℕ). l.i + n) (differs a.seg.now a.bytes.now a.from l.i c.requires.0 (omega arith) c.if-bytes-place.false c.if-bytes-place-2.true) ∙ add-zero l.i); upper_bound = omega arith }
+    record { value = sym (sym l.invariant ∙ ap (λ (n : ℕ). l.i + n) (differs a.seg.now a.bytes.now a.from l.i c.requires.0 (omega arith) c.if-bytes-place.false c.if-bytes-place-2.true) ∙ add-zero l.i); upper_bound = omega arith }
 
 pub loop-i-preserved : goal.loop-i-preserved
 loop-i-preserved c = let a = c.args in
     let l = c.loop-i in
     let on = agrees a.seg.now a.bytes.now a.from l.i c.requires.0 (omega arith) c.if-bytes-place.false c.if-bytes-place-2.false in
-    (omega arith, ap (λ (n : ℕ). l.i + 1 + rest a.seg.now a.bytes.now a.from n) (add-one l.i) ∙ next l.i _ ∙ ap (λ (n : ℕ). l.i + n) (sym on) ∙ l.invariant.1)
+    ap (λ (n : ℕ). l.i + 1 + rest a.seg.now a.bytes.now a.from n) (add-one l.i) ∙ next l.i _ ∙ ap (λ (n : ℕ). l.i + n) (sym on) ∙ l.invariant
   where
     next : (m n : ℕ) → m + 1 + n ≡ m + suc n
     next m n = omega arith
@@ -73,4 +73,5 @@ pub returns : goal.returns
 returns c = let a = c.args in
     let l = c.loop-i in
     let end : length (payload_in a.seg.now) ≤ l.i = omega (arith, length-drop segment_header_bytes a.seg.now, c.requires.0, c.loop-i-test.false) in
-    record { value = sym (sym l.invariant.1 ∙ ap (λ (n : ℕ). l.i + n) (past_end (payload_in a.seg.now) _ l.i end) ∙ add-zero l.i); upper_bound = omega arith }
+    let done : payload_bytes ≡ l.i = omega arith in
+    record { value = done ∙ sym (sym l.invariant ∙ ap (λ (n : ℕ). l.i + n) (past_end (payload_in a.seg.now) _ l.i end) ∙ add-zero l.i); upper_bound = omega arith }

@@ -1,21 +1,18 @@
-use Prim.Native.Nat.{◌+◌, ◌≤◌}
+use Prim.Native.Nat.{◌+◌, ◌-◌, ◌≤◌}
 use mathlib.Core.Path.{◌≡◌}
 use mathlib.Core.List.{flat_map}
 use lib.ListN.{length, drop}
 use lib.Seq.{sets}
-use Rattle.meaning.specs.declared.Checked.TheVariants.{Fine}
+use Rattle.std.proofs.Common.{Ok}
 use Rattle.meaning.specs.Listing.{ensemble_listing}
 use Rattle.meaning.specs.Reading.{ensembles_checks, ensembles_at}
 use Rattle.listing_puts.proofs.write_ensembles.Given as goal
 
-abbrev pub invariant-loop-left : goal.invariant-loop-left
-invariant-loop-left l = let rest = flat_map ensemble_listing (ensembles_at l.e l.s l.left (drop l.at l.chunk)) in
+abbrev pub invariant-loop : goal.invariant-loop
+invariant-loop l = let rest = flat_map ensemble_listing (ensembles_at l.e l.s (l.count - l.counter) (drop l.at l.chunk)) in
     let all = flat_map ensemble_listing (ensembles_at l.e l.s l.count (drop l.from l.chunk)) in
     (l.at ≤ length l.chunk)
-    × (ensembles_checks l.e l.s l.left l.at (drop l.at l.chunk) ≡ Fine)
+    × (ensembles_checks l.e l.s (l.count - l.counter) l.at (drop l.at l.chunk) ≡ Ok tt)
     × (length l.out ≡ length l.initial.out)
     × (l.to + length rest ≡ l.start + length all)
     × (sets l.out l.to rest ≡ sets l.initial.out l.start all)
-
-abbrev pub decreases-loop-left : goal.decreases-loop-left
-decreases-loop-left l = l.left

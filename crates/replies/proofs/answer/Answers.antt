@@ -5,9 +5,9 @@ use Rattle.typed.proofs.Replies.{says_inside}
 use Rattle.replies.proofs.answer.Goals as goal
 
 pub slice_bounds-log-end : goal.slice_bounds-log-end
-slice_bounds-log-end g c = omega (arith, says_inside c.respond.ensures c.in-Log.is)
+slice_bounds-log-end g c = omega (arith, says_inside c.respond.ensures c.in-Ok.is)
 
 pub slice_bounds-put-end : goal.slice_bounds-put-end
 slice_bounds-put-end g c =
-    let inside : c.in-Log.length ≤ length c.respond.new.log = omega (arith, says_inside c.respond.ensures c.in-Log.is) in
+    let inside : c.in-Ok.length ≤ length c.respond.new.log = omega (arith, says_inside c.respond.ensures c.in-Ok.is) in
     sym (length-take-le _ _ inside)

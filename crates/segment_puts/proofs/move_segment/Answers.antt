@@ -4,4 +4,4 @@ use Rattle.segment_puts.proofs.move_segment.Goals as goal
 
 pub returns : goal.returns
 returns c = let a = c.args in
-    segment-stored a.kind a.last a.out.now _ _ a.number _ _ c.current_of.ensures c.payload_at-payload.ensures c.put_payload.ensures
+    segment-stored a.kind a.last a.out.now _ _ a.number _ _ c.from.ensures c.payload_at-payload.ensures c.put_payload.ensures

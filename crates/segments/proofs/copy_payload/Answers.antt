@@ -5,4 +5,4 @@ use Rattle.segments.proofs.copy_payload.Goals as goal
 
 pub returns : goal.returns
 returns c = let a = c.args in
-    c.put_payload.ensures ∙ ap (sets a.to.now a.place) c.payload_at-payload.ensures
+    c.put_payload.ensures ∙ ap (sets a.to.now a.place) c.payload_at.ensures

@@ -3,12 +3,12 @@ use native.Mathlib.Omega.{arith}
 use mathlib.Core.Path.{refl, sym, ◌∙◌}
 use mathlib.Core.Bool.{cond}
 use Rattle.meaning.specs.declared.Refusal.TheVariants.{Clash}
-use Rattle.slots.specs.declared.Answer.TheVariants.{Refused}
 use Rattle.slots.specs.Slots.{spoiled_slot}
 use Rattle.slots.specs.Gathering.{side, outcome}
 use Rattle.slots.proofs.Keeps.{segment-passes, number_small, slot-numbers}
 use Rattle.slots.proofs.Laws.{gathered-clash, gathered-repeat, more_small, more_word, gathered_more, gathered_last}
 use borrow.Author.Rules.{rules}
+use Rattle.std.proofs.Common.{Err}
 use Rattle.slots.proofs.gather.Goals as goal
 
 pub clashes-requires : goal.clashes-requires
@@ -21,7 +21,7 @@ pub returns-then-clashes : goal.returns-then-clashes
 returns-then-clashes c = let a = c.args in
     let t = side a.slot a.bytes.now (cond a.one a.first.now a.second.now) in
     record {
-      second_after = (λ i. outcome (Refused Clash) (side spoiled_slot (c.clear.ensures i) t.buffer)) ∙ gathered-clash a.kind a.seg.now t (sym c.clashes.ensures ∙ c.if-clashes.true);
+      second_after = (λ i. outcome (Err Clash) (side spoiled_slot (c.clear.ensures i) t.buffer)) ∙ gathered-clash a.kind a.seg.now t (sym c.clashes.ensures ∙ c.if-clashes.true);
       first_unchanged = refl;
     }
 

@@ -1,12 +1,12 @@
-use Prim.Native.Nat.{◌+◌, ◌≤◌}
+use Prim.Native.Nat.{◌-◌, ◌≤◌}
 use mathlib.Core.Path.{◌≡◌}
 use lib.ListN.{length}
 use lib.Seq.{sets}
-use Rattle.text.specs.Text.{decimal}
+use Rattle.text.proofs.Laws.{last_digits}
 use Rattle.text.proofs.put_digits.Given as goal
 
-abbrev pub invariant-loop-rest : goal.invariant-loop-rest
-invariant-loop-rest l = (l.at ≡ l.to + length (decimal l.rest)) × (l.at ≤ length l.out) × (length l.out ≡ length l.initial.out) × (sets l.out l.to (decimal l.rest) ≡ sets l.initial.out l.to (decimal l.n))
+abbrev pub invariant-loop-at : goal.invariant-loop-at
+invariant-loop-at l = (l.to ≤ l.at) × (length l.out ≡ length l.initial.out) × (sets l.out l.to (last_digits (l.at - l.to) l.rest) ≡ sets l.initial.out l.to (last_digits l.count l.n))
 
-abbrev pub decreases-loop-rest : goal.decreases-loop-rest
-decreases-loop-rest l = l.rest
+abbrev pub decreases-loop-at : goal.decreases-loop-at
+decreases-loop-at l = l.at

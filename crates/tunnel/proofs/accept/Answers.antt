@@ -16,8 +16,8 @@ returns c = let a = c.args in
     numbered a.numbers a.part.now a.outer.now _ _ _ _ _ c.sequence_of-sequence.ensures c.gap_before-gap.ensures c.held_in-held.ensures c.marker_of-marked.ensures c.start_in-start.ensures in
     accept_reads a.numbers a.part.now a.outer.now a.out.now _ _ _ _ _ n _ c.kept_over-kept.ensures c.requires.1 (sym c.is_outside.ensures ∙ c.if-is_outside.false) _ _ _ _ _ c.read_behind-g.ensures
 
-pub overflow_add-result-2 : goal.overflow_add-result-2
-overflow_add-result-2 c = let a = c.args in
+pub overflow_add-lost-2 : goal.overflow_add-lost-2
+overflow_add-lost-2 c = let a = c.args in
     let n =
     numbered a.numbers a.part.now a.outer.now _ _ _ _ _ c.sequence_of-sequence.ensures c.gap_before-gap.ensures c.held_in-held.ensures c.marker_of-marked.ensures c.start_in-start.ensures in
     omega (arith, lost_most a.numbers a.part.now a.outer.now a.out.now _ _ _ _ _ n _ c.kept_over-kept.ensures c.requires.1 (sym c.is_outside.ensures ∙ c.if-is_outside.false) _ _ _ _ _ c.read_behind-g.ensures, held_inside a.numbers a.part.now a.outer.now a.out.now _ _ _ _ _ n, c.requires.0, c.requires.2)

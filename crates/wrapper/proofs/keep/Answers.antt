@@ -6,4 +6,4 @@ use Rattle.wrapper.proofs.keep.Goals as goal
 
 pub returns : goal.returns
 returns c = let a = c.args in
-    (refl, keep_says a.numbers a.bytes.now (omega (arith, c.requires.0)) c.requires.1 c.requires.2 a.packet.now a.timestamp (omega (arith, c.requires.0)) _ _ _ _ c.left_by-left.ensures c.begin_by.ensures c.stamp_by.ensures c.put.ensures (omega arith))
+    (refl, keep_says a.numbers a.bytes.now c.requires.0 (omega arith) a.packet.now a.timestamp (omega (arith, c.requires.0)) _ _ _ _ c.waiting-left.ensures c.first_begin.ensures c.first_stamp.ensures c.put.ensures (omega arith))

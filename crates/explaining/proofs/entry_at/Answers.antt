@@ -1,9 +1,0 @@
--- `explaining::entry_at` meets its contract. Assumes nothing.
-use lib.ListN.{drop}
-use Rattle.records.proofs.Entries.{entry_by}
-use Rattle.explaining.specs.Explained.{explain_form}
-use Rattle.explaining.proofs.entry_at.Goals as goal
-
-pub returns : goal.returns
-returns c = let a = c.args in
-    entry_by explain_form (drop a.at a.file.now) _ _ _ c.mark_at.ensures c.form_of-form.ensures c.entry_at.ensures

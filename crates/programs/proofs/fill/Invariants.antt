@@ -1,0 +1,14 @@
+-- What is left to fill, put here, makes the whole that was asked for; the measure is what is left of the file. Assumes nothing.
+use Prim.Native.Nat.{◌-◌}
+use lib.ListN.{length}
+use Rattle.programs.proofs.Filling.{Doing}
+use Rattle.programs.proofs.fill.Given as goal
+
+abbrev pub invariant-loop-out : goal.invariant-loop-out
+invariant-loop-out g l = record {
+  doing : Doing g.P.Program.channels (g.P.Program.seen l.initial.program) l.file l.initial.out l.initial.report (g.P.Program.seen l.program) l.out l.report l.read l.wrote l.told;
+  ready : g.P.Program.Ready l.program;
+}
+
+abbrev pub decreases-loop-out : goal.decreases-loop-out
+decreases-loop-out g l = length l.file - l.read
