@@ -1,6 +1,6 @@
 -- Laws of the desk's definitions in the code's own terms. Assumes nothing.
 use mathlib.Core.Path.{◌≡◌, sym, ap, ◌∙◌}
-use mathlib.Core.Bool.{Bool, true, false, cond, not, ◌||◌, and-false, not-not}
+use mathlib.Core.Bool.{Bool, true, false, cond, not, ◌&&◌, ◌||◌, not-not}
 use mathlib.Core.List.{List, ◌++◌}
 use Prim.Native.Nat.{ℕ, ◌≤◌}
 use native.Mathlib.Omega.{arith}
@@ -8,43 +8,30 @@ use lib.ListN.{length, take}
 use Rattle.std.proofs.Common.{Result, Ok, Err}
 use Rattle.octets.proofs.Laws.{either}
 use Rattle.meaning.specs.declared.Kind.{Kind}
-use Rattle.meaning.specs.declared.Kind.TheVariants.{This, Next}
 use Rattle.meaning.specs.declared.Refusal.{Refusal}
 use Rattle.meaning.specs.declared.Refusal.TheVariants.{ShortBuffer, BadDesk}
 use Rattle.meaning.specs.Sizes.{longest_listing}
 use Rattle.slots.specs.declared.Slot.{Slot}
 use Rattle.slots.specs.declared.Answer.{Answer}
 use Rattle.segments.specs.Segment.{segment_kind, segment_checks}
-use Rattle.slots.specs.Slots.{no_bytes, slot_fits}
+use Rattle.slots.specs.Slots.{no_bytes}
 use Rattle.slots.specs.Gathering.{side, Outcome, outcome, gathered}
 use Rattle.notes.specs.declared.Notes.{Notes}
-use Rattle.notes.specs.Notes.{emptied_notes, length_fits, slot_for, length_for, first_serves, lent_for, too_short, notes_with}
+use Rattle.notes.specs.Notes.{emptied_notes, slot_for, length_for, first_serves, lent_for, too_short, notes_with}
 use Rattle.desk.specs.declared.Desk.{Desk}
 use Rattle.desk.specs.Desks.{desk, bytes_for, emptied, fresh, well_formed, new_gathering, new_frame, After, after, side_of, bytes_with, taken_by, segment_after, shown_length, shown}
 use Rattle.desk.proofs.Parts.{length_for_small}
 use Rattle.desk.proofs.Ready.{Ready, lent_room, long_ready, ready_answered}
 
--- ---- whether a desk is well formed, test by test
+-- ---- two tests as `&&` runs them: v is the value of both, and r of the first
+
+pub both_run : {r t v a b : Bool} → r ≡ a → r ≡ true → t ≡ b → v ≡ t → v ≡ a && b
+both_run {b = b} is passes other v = v ∙ other ∙ ap (λ (s : Bool). s && b) (sym passes ∙ is)
+
+pub first_fails : {r v a : Bool} (b : Bool) → r ≡ a → r ≡ false → v ≡ r → v ≡ a && b
+first_fails b is fails v = v ∙ fails ∙ ap (λ (s : Bool). s && b) (sym fails ∙ is)
 
 module _ (d : Desk) where
-  pub unfit_shown : length_fits d.notes.shown ≡ false → false ≡ well_formed d
-  unfolding well_formed
-  unfit_shown e = simp e
-
-  module _ (shown : length_fits d.notes.shown ≡ true) where
-    pub unfit_coming : length_fits d.notes.coming ≡ false → false ≡ well_formed d
-    unfolding well_formed
-    unfit_coming e = simp (shown, e)
-
-    module _ (coming : length_fits d.notes.coming ≡ true) where
-      pub unfit_this : slot_fits d.notes.this (bytes_for This d) ≡ false → false ≡ well_formed d
-      unfolding well_formed
-      unfit_this e = simp (shown, coming, e)
-
-      pub fit_next : slot_fits d.notes.this (bytes_for This d) ≡ true → slot_fits d.notes.next (bytes_for Next d) ≡ well_formed d
-      unfolding well_formed
-      fit_next e = simp (shown, coming, e)
-
   -- ---- new gathering and new frame
 
   pub gathering_good : well_formed d ≡ true → new_gathering d ≡ emptied d.notes.shown d.notes.coming d.notes.swapped
@@ -112,14 +99,6 @@ module _ (d : Desk) (xs first second : List ℕ) where
 -- ---- show
 
 module _ (k : Kind) (d : Desk) (first second : List ℕ) where
-  pub shown_unfit : well_formed d ≡ false → 0 ≡ shown_length k d first second
-  unfolding shown_length
-  shown_unfit e = simp e
-
-  pub shown-short : not (too_short first || too_short second) ≡ false → 0 ≡ shown_length k d first second
-  unfolding shown_length
-  shown-short e = simp (e, and-false)
-
   pub shown_long : well_formed d ≡ true → not (too_short first || too_short second) ≡ true → length_for k d.notes ≡ shown_length k d first second
   unfolding shown_length
   shown_long fit e = simp (fit, e)

@@ -1,7 +1,7 @@
 // The desk: a slot for each kind, the lengths of the two listings, and which of the two lent buffers serves this frame.
 #![tactic(auto)]
 
-ghost use Rattle.std.specs.Prelude.{◌≡◌, true, ◌++◌, ◌+◌, ◌≤◌, length, Ok};
+ghost use Rattle.std.specs.Prelude.{◌≡◌, true, cond, ◌++◌, ◌+◌, ◌≤◌, length, Ok};
 ghost use Rattle.meaning.specs.Sizes.{longest_chunk, longest_listing};
 ghost use Rattle.segments.specs.Segment.{segment_checks};
 ghost use Rattle.slots.specs.Slots.{no_bytes};
@@ -40,18 +40,10 @@ fn fits(notes: Notes, bytes: &[u8]) -> bool
     requires { length bytes.now ≡ longest_chunk + longest_chunk }
     ensures { result ≡ well_formed (Desks·desk notes bytes.now) }
 {
-    let mine = notes.this;
-    let other = notes.next;
-    if !notes::length_fits(notes.shown) {
-        return false;
-    }
-    if !notes::length_fits(notes.coming) {
-        return false;
-    }
-    if !slots::slot_fits(mine, &bytes[..LONGEST_CHUNK]) {
-        return false;
-    }
-    slots::slot_fits(other, &bytes[LONGEST_CHUNK..])
+    notes::length_fits(notes.shown)
+        && notes::length_fits(notes.coming)
+        && slots::slot_fits(notes.this, &bytes[..LONGEST_CHUNK])
+        && slots::slot_fits(notes.next, &bytes[LONGEST_CHUNK..])
 }
 
 // Clears the bytes of both slots. Internal.
@@ -59,10 +51,8 @@ pub fn clear(notes: Notes, bytes: &mut [u8])
     requires { well_formed (Desks·desk notes bytes.old) ≡ true }
     ensures { bytes.new ≡ no_bytes ++ no_bytes }
 {
-    let mine = notes.this;
-    let other = notes.next;
-    slots::clear(mine, &mut bytes[..LONGEST_CHUNK]);
-    slots::clear(other, &mut bytes[LONGEST_CHUNK..]);
+    slots::clear(notes.this, &mut bytes[..LONGEST_CHUNK]);
+    slots::clear(notes.next, &mut bytes[LONGEST_CHUNK..]);
 }
 
 // A segment that passed the checks on itself comes to the slot of its kind.
@@ -89,11 +79,9 @@ fn steer(
         first,
         second,
     );
-    let answer = g.answer;
-    let became = g.slot;
     Driven {
-        answer,
-        notes: notes::with_slot(notes, kind, became, answer),
+        answer: g.answer,
+        notes: notes::with_slot(notes, kind, g.slot, g.answer),
     }
 }
 
@@ -135,7 +123,7 @@ impl Desk {
         ensures { result ≡ Desks·desk notes (no_bytes ++ no_bytes) }
     {
         Desk {
-            notes: notes,
+            notes,
             bytes: [0u8; BYTES],
         }
     }
@@ -143,31 +131,32 @@ impl Desk {
     fn well_formed(self) -> bool
         ensures { result ≡ well_formed self }
     {
-        let notes = self.notes;
-        let bytes = self.bytes;
-        fits(notes, &bytes)
+        fits(self.notes, &self.bytes)
+    }
+
+    // These numbers and no bytes if the desk is well formed, and else a fresh one.
+    fn emptied(self, notes: Notes) -> Desk
+        ensures { result ≡ cond (well_formed self) (Desks·desk notes (no_bytes ++ no_bytes)) Desks·fresh }
+    {
+        if self.well_formed() {
+            Desk::bare(notes)
+        } else {
+            Desk::fresh()
+        }
     }
 
     // Empties both slots.
     pub fn new_gathering(self) -> Desk
         ensures { result ≡ new_gathering self }
     {
-        if !self.well_formed() {
-            return Desk::fresh();
-        }
-        let notes = self.notes;
-        Desk::bare(notes.gathering())
+        self.emptied(self.notes.gathering())
     }
 
     // Empties both slots; the next frame's listing becomes this frame's, and the buffers change roles.
     pub fn new_frame(self) -> Desk
         ensures { result ≡ new_frame self }
     {
-        if !self.well_formed() {
-            return Desk::fresh();
-        }
-        let notes = self.notes;
-        Desk::bare(notes.frame())
+        self.emptied(self.notes.frame())
     }
 
     // A segment goes to its kind's slot.
@@ -188,14 +177,14 @@ impl Desk {
                 desk: self,
             };
         }
-        let notes = self.notes;
         let mut bytes = self.bytes;
-        let driven = drive(notes, &mut bytes, seg, first, second);
-        let answer = driven.answer;
-        let left = driven.notes;
+        let driven = drive(self.notes, &mut bytes, seg, first, second);
         Taken {
-            answer,
-            desk: Desk { notes: left, bytes },
+            answer: driven.answer,
+            desk: Desk {
+                notes: driven.notes,
+                bytes,
+            },
         }
     }
 
@@ -206,8 +195,7 @@ impl Desk {
     {
         let formed = self.well_formed();
         let long = notes::roomy(first, second);
-        let notes = self.notes;
-        let length = notes::listed_for(kind, notes);
+        let length = notes::listed_for(kind, self.notes);
         if formed && long { length } else { 0 }
     }
 
@@ -216,8 +204,7 @@ impl Desk {
         ensures result_value { result.now ≡ Desks·shown kind self first.now second.now }
         ensures ref_ptr_value { result.ref_ptr ≡ lent_for kind self.notes.swapped first.entry.ref_ptr second.entry.ref_ptr }
     {
-        let notes = self.notes;
         let length = self.shown_length(kind, first, second);
-        notes::part(kind, notes.swapped, length, first, second)
+        notes::part(kind, self.notes.swapped, length, first, second)
     }
 }

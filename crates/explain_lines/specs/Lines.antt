@@ -1,5 +1,5 @@
 -- Document 02, 8/14, and the programs' page: the line of an explanation, and the lines of a chunk by itself.
-use Rattle.std.specs.Prelude.{ℕ, List, [], ◌++◌, Result, Ok, Err}
+use Rattle.std.specs.Prelude.{ℕ, List, [], ◌++◌, Result, Ok, Err, Option, None, Some}
 use Rattle.text.specs.Text.{text, decimal, numbered}
 use Rattle.meaning.specs.Reading.{checks}
 use Rattle.lines.specs.Lines.{refusal_line}
@@ -7,7 +7,7 @@ use Rattle.field_names.specs.Names.{name_of}
 use Rattle.explains.specs.declared.Field.{Field}
 use Rattle.explains.specs.declared.Field.TheVariants.{Length, Row, Payload}
 use Rattle.explains.specs.declared.Explained.{Explained}
-use Rattle.explains.specs.declared.Explained.TheVariants.{Nothing, Found, Spoiled}
+use Rattle.explains.specs.declared.Explained.TheVariants.{Found, Spoiled}
 use Rattle.explains.specs.Explaining.{chunk_explained}
 use Rattle.meaning.specs.declared.Refusal.{Refusal}
 
@@ -20,10 +20,10 @@ field_name Payload = text "payload"
 abbrev pub found_text : ℕ → ℕ → List ℕ
 found_text at value = text " at bit " ++ (decimal at ++ (text " is " ++ numbered value))
 
-unfoldable pub explained_line : Explained → List ℕ
-explained_line Nothing = []
-explained_line (Found n field at value) = text "  " ++ (field_name field ++ found_text at value)
-explained_line Spoiled = text "  slot spoiled\n"
+unfoldable pub explained_line : Option Explained → List ℕ
+explained_line None = []
+explained_line (Some (Found n field at value)) = text "  " ++ (field_name field ++ found_text at value)
+explained_line (Some Spoiled) = text "  slot spoiled\n"
 
 -- two spaces, the longest name, the words between, two numbers of 20 digits, the line's end
 abbrev pub longest_explained : ℕ

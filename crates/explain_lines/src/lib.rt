@@ -37,17 +37,19 @@ fn put_found(at: u16, value: usize, out: &mut [u8], to: usize) -> usize
 }
 
 // The line of an explanation, if there is one.
-pub fn put_explained(explained: Explained, out: &mut [u8], to: usize) -> usize
+pub fn put_explained(explained: Option<Explained>, out: &mut [u8], to: usize) -> usize
     requires { to + longest_explained ≤ length out.old }
     ensures { Put (explained_line explained) out.old to out.new result }
 {
+    let Some(explained) = explained else {
+        return to;
+    };
     match explained {
-        Explained::Nothing => to,
         Explained::Found {
-            number: _,
             field,
             at,
             value,
+            ..
         } => {
             let from = text::put_text(b"  ", out, to);
             let end = put_field(field, out, from);

@@ -7,7 +7,7 @@ use mathlib.Core.Logic.{◌⊎◌}
 use Prim.Native.Nat.{ℕ, ◌≤◌, ◌<◌}
 use lib.Dec.{eqb}
 use lib.ListN.{length, take}
-use Rattle.std.proofs.Common.{Ok, Err}
+use Rattle.std.proofs.Common.{Ok, Err, Some}
 use Rattle.octets.specs.Bits.{laid, Bytes}
 use Rattle.octets.specs.Checks.{check}
 use Rattle.octets.specs.Tables.{Row, widths, filled, Shaped, before, number_at}
@@ -68,15 +68,15 @@ module _ (xs : List ℕ) where
   chunk_exactly = exactly.chunk_exactly xs
 
   -- 8: the length is over 560; it is the first check
-  pub too_long : (explained_values (chunk_explained xs)).number ≡ 8 → (chunk_explained xs ≡ Found 8 Length 0 (length xs)) × (longest_chunk < length xs)
+  pub too_long : (explained_values (chunk_explained xs)).number ≡ 8 → (chunk_explained xs ≡ Some (Found 8 Length 0 (length xs))) × (longest_chunk < length xs)
   too_long = chunks.too_long xs
 
   -- 5: the number in the first two bits is not 0; the chunk is neither too long nor too short for them
-  pub major_broken : Bytes xs → (explained_values (chunk_explained xs)).number ≡ 5 → (chunk_explained xs ≡ Found 5 (row Chunk 0) 0 (number_at xs 0 2)) × (number_at xs 0 2 ≡ 0 → ⊥) × (2 ≤ length xs) × (length xs ≤ longest_chunk)
+  pub major_broken : Bytes xs → (explained_values (chunk_explained xs)).number ≡ 5 → (chunk_explained xs ≡ Some (Found 5 (row Chunk 0) 0 (number_at xs 0 2))) × (number_at xs 0 2 ≡ 0 → ⊥) × (2 ≤ length xs) × (length xs ≤ longest_chunk)
   major_broken = chunks.major_broken xs
 
 -- 9: the first field that is not whole, which lies in the part that the reader's offset tells; no check before it fails
-pub not_whole : {xs : List ℕ} {part : Part} {start : ℕ} → Bytes xs → checks xs ≡ Err (EndsEarly part start) → (i : ℕ) × (at : ℕ) × (chunk_explained xs ≡ Found 9 (row (table_of part) i) at (length xs)) × NotWhole xs part start i at
+pub not_whole : {xs : List ℕ} {part : Part} {start : ℕ} → Bytes xs → checks xs ≡ Err (EndsEarly part start) → (i : ℕ) × (at : ℕ) × (chunk_explained xs ≡ Some (Found 9 (row (table_of part) i) at (length xs))) × NotWhole xs part start i at
 not_whole = chunks.not_whole
 
 -- ---- a segment
@@ -87,11 +87,11 @@ module _ (xs : List ℕ) where
   segment_exactly d first second = exactly.segment_exactly d xs first second
 
   -- 2: the length is not 37
-  pub length_broken : (explained_values (segment_explained xs)).number ≡ 2 → (segment_explained xs ≡ Found 2 Length 0 (length xs)) × (length xs ≡ segment_bytes → ⊥)
+  pub length_broken : (explained_values (segment_explained xs)).number ≡ 2 → (segment_explained xs ≡ Some (Found 2 Length 0 (length xs))) × (length xs ≡ segment_bytes → ⊥)
   length_broken = segments.length_broken xs
 
   -- 3 to 6: the value is the number in the row's bits, and not what the rule wants
-  pub row_broken : {n i at value : ℕ} → Bytes xs → segment_explained xs ≡ Found n (row Segment i) at value → RowBroken xs n i at value
+  pub row_broken : {n i at value : ℕ} → Bytes xs → segment_explained xs ≡ Some (Found n (row Segment i) at value) → RowBroken xs n i at value
   row_broken = segments.row_broken xs
 
   -- every check before it passes
@@ -106,13 +106,13 @@ gathered_exactly = exactly.gathered_exactly
 
 module _ (s : Slot) (bytes xs : List ℕ) where
   -- 7: the slot was spoiled; or the last number is not the slot's; or, of a well formed slot, a byte of the payload is not the one that it holds
-  pub spoiled_before : gathered_explained s bytes xs ≡ Spoiled → s.spoiled ≡ true
+  pub spoiled_before : gathered_explained s bytes xs ≡ Some Spoiled → s.spoiled ≡ true
   spoiled_before = clash.spoiled_before s bytes xs
 
-  pub last_differs : {i at value : ℕ} → Bytes xs → gathered_explained s bytes xs ≡ Found 7 (row Segment i) at value → LastDiffers s xs i at value
+  pub last_differs : {i at value : ℕ} → Bytes xs → gathered_explained s bytes xs ≡ Some (Found 7 (row Segment i) at value) → LastDiffers s xs i at value
   last_differs = clash.last_differs s bytes xs
 
-  pub payload_differs : {at value : ℕ} → Bytes xs → slot_fits s bytes ≡ true → gathered_explained s bytes xs ≡ Found 7 Payload at value → PayloadDiffers s bytes xs at value
+  pub payload_differs : {at value : ℕ} → Bytes xs → slot_fits s bytes ≡ true → gathered_explained s bytes xs ≡ Some (Found 7 Payload at value) → PayloadDiffers s bytes xs at value
   payload_differs = clash.payload_differs s bytes xs
 
   -- every check before it passes

@@ -17,19 +17,19 @@ use records::Entry;
 use slots::Slot;
 use std::io::{Read, Write};
 
-pub fn explain_chunk(chunk: &[u8]) -> Explained
+pub fn explain_chunk(chunk: &[u8]) -> Option<Explained>
     ensures { result ≡ chunk_explained chunk.now }
 {
     explains::explain_chunk(chunk)
 }
 
-pub fn explain_segment(seg: &[u8]) -> Explained
+pub fn explain_segment(seg: &[u8]) -> Option<Explained>
     ensures { result ≡ segment_explained seg.now }
 {
     explains::explain_segment(seg)
 }
 
-pub fn explain_gathered(seg: &[u8], slot: Slot, bytes: &[u8]) -> Explained
+pub fn explain_gathered(seg: &[u8], slot: Slot, bytes: &[u8]) -> Option<Explained>
     ensures { result ≡ gathered_explained slot bytes.now seg.now }
 {
     explains::explain_gathered(seg, slot, bytes)

@@ -6,7 +6,7 @@ use Prim.Native.Nat.{ℕ, ◌+◌, ◌-◌, ◌*◌, ◌^◌, ◌≤◌, ◌<◌
 use native.Mathlib.Omega.{arith}
 use lib.Dec.{eqb}
 use lib.ListN.{length, drop, length-append, length-take, length-drop}
-use Rattle.std.proofs.Common.{Result, Ok, Err}
+use Rattle.std.proofs.Common.{Result, Ok, Err, Option, None, Some}
 use Rattle.octets.specs.Tables.{before, first_not_whole}
 use Rattle.octets.proofs.Laws.{either, cond_both}
 use Rattle.octets.proofs.Tables.{not_whole_before, number_small}
@@ -45,7 +45,7 @@ use Rattle.replay.specs.Log.{call_of, log_program}
 use Rattle.replay.proofs.Log.{log-within, next_ready, lines_fit}
 use Rattle.fields.specs.declared.Table.TheVariants.{Segment}
 use Rattle.explains.specs.declared.Explained.{Explained}
-use Rattle.explains.specs.declared.Explained.TheVariants.{Nothing, Found, Spoiled}
+use Rattle.explains.specs.declared.Explained.TheVariants.{Found, Spoiled}
 use Rattle.explains.specs.Explaining.{widths_in, row_fault, table_of, chunk_fault, chunk_by, chunk_explained, segment_row, segment_fault, first_differing, payload_fault, clash_fault, gathered_explained}
 use Rattle.explain_lines.specs.Lines.{field_name, found_text, explained_line, longest_explained, checked_line, chunk_lines}
 use Rattle.explain_lines.proofs.Laws.{field-short, checked_short}
@@ -53,15 +53,15 @@ use Rattle.explaining.specs.Explained.{explain_form, longest_record, refused_by,
 
 -- ---- an explanation whose numbers have at most 20 digits: its line is short
 
-abbrev Small : Explained → Type 0
-Small Nothing = Unit {0}
-Small (Found n field at value) = (at < 10 ^ 20) × (value < 10 ^ 20)
-Small Spoiled = Unit {0}
+abbrev Small : Option Explained → Type 0
+Small None = Unit {0}
+Small (Some (Found n field at value)) = (at < 10 ^ 20) × (value < 10 ^ 20)
+Small (Some Spoiled) = Unit {0}
 
-line-short : (e : Explained) → Small e → length (explained_line e) ≤ longest_explained
+line-short : (e : Option Explained) → Small e → length (explained_line e) ≤ longest_explained
 unfolding explained_line
-line-short Nothing s = omega arith
-line-short (Found n field at value) s =
+line-short None s = omega arith
+line-short (Some (Found n field at value)) s =
     omega (
       arith,
       length-append (field_name field) (found_text at value),
@@ -70,7 +70,7 @@ line-short (Found n field at value) s =
       length-decimal 19 at s.0,
       length-numbered 19 value s.1,
     )
-line-short Spoiled s = omega arith
+line-short (Some Spoiled) s = omega arith
 
 -- ---- a chunk and a segment that are no longer than a record
 
@@ -113,7 +113,7 @@ module _ (xs : List ℕ) (short : Short xs) where
   chunk-fits =
       omega (arith, length-append (checked_line (checks xs)) (explained_line (chunk_explained xs)), checked_short xs (checks xs) refl, line-short (chunk_explained xs) chunk_small)
 
-  row_small : (n : ℕ) → Small (row_fault n Segment (segment_row n) xs)
+  row_small : (n : ℕ) → Small (Some (row_fault n Segment (segment_row n) xs))
   unfolding before
   row_small n =
       either (eqb n 3) (λ a. simp a (omega arith, omega (arith, number_small xs 0 2)))
@@ -125,19 +125,19 @@ module _ (xs : List ℕ) (short : Short xs) where
       either (eqb n 6) (λ d. simp (a, b, c, d) (omega arith, omega (arith, number_small xs 8 4)))
       (λ d. simp (a, b, c, d) (omega arith, omega (arith, number_small xs 12 4))))))
 
-  segment_small : (n : ℕ) → Small (segment_fault n xs)
-  segment_small n = cond_both Small (eqb n 2) (omega arith, omega arith) (row_small n)
+  segment_small : (n : ℕ) → Small (Some (segment_fault n xs))
+  segment_small n = cond_both (λ (e : Explained). Small (Some e)) (eqb n 2) (omega arith, omega arith) (row_small n)
 
-  payload_small : (zs : List ℕ) → Small (payload_fault (first_differing (payload_in xs) zs) xs)
+  payload_small : (zs : List ℕ) → Small (Some (payload_fault (first_differing (payload_in xs) zs) xs))
   payload_small zs =
       let i : ℕ = first_differing (payload_in xs) zs in
       (omega (arith, differing_most (payload_in xs) zs, length-drop segment_header_bytes xs), omega (arith, number_small xs (8 * (segment_header_bytes + i)) 8))
 
-  clash_small : (s : Slot) (bytes : List ℕ) → Small (clash_fault s bytes xs)
+  clash_small : (s : Slot) (bytes : List ℕ) → Small (Some (clash_fault s bytes xs))
   clash_small s bytes =
       let place : List ℕ = place_of bytes (number_in xs) in
-      cond_both Small s.spoiled tt
-      (cond_both Small (not (eqb s.last (last_in xs))) (segment_small 7) (payload_small place))
+      cond_both (λ (e : Explained). Small (Some e)) s.spoiled tt
+      (cond_both (λ (e : Explained). Small (Some e)) (not (eqb s.last (last_in xs))) (segment_small 7) (payload_small place))
 
   gathered_small : (s : Slot) (bytes : List ℕ) → Small (gathered_explained s bytes xs)
   unfolding gathered_explained
@@ -147,12 +147,11 @@ module _ (xs : List ℕ) (short : Short xs) where
 
 -- ---- under the line of a segment
 
-refused_small : (a : Result Answer Refusal) (own held : Explained) → Small own → Small held → Small (refused_by a own held)
+refused_small : (a : Result Answer Refusal) (own held : Option Explained) → Small own → Small held → Small (refused_by a own held)
 refused_small (Ok (Missing n)) own held o h = tt
 refused_small (Ok (NewList k n)) own held o h = tt
-refused_small (Err f) Nothing held o h = h
-refused_small (Err f) (Found n field at value) held o h = o
-refused_small (Err f) Spoiled held o h = tt
+refused_small (Err f) None held o h = h
+refused_small (Err f) (Some e) held o h = o
 
 module _ (s : State) (y : Ready s) where
   under_small : (xs : List ℕ) → Short xs → Small (under_segment s xs)
@@ -174,7 +173,7 @@ module _ (s : State) (y : Ready s) where
   record_fits r short =
       either (is_chunk r) (λ t. rw t (chunk-fits (body_in r) (omega (arith, length-drop length_bytes r.content))))
       (λ t.
-      let e : Explained = under_call s (call_of s r) in
+      let e : Option Explained = under_call s (call_of s r) in
       rw t (omega (arith, length-append (log_program.text s r) (explained_line e), lines_fit.cost s r, line-short e (called_small r short))))
 
 -- ---- the records of a file

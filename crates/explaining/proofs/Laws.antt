@@ -25,7 +25,7 @@ use Rattle.effects.proofs.Calls.{lent_whole, left_whole}
 use Rattle.lines.specs.Lines.{answer_lines}
 use Rattle.replay.specs.Log.{log_form, call_of, log_program, CallSays}
 use Rattle.replay.proofs.Laws.{filled_is}
-use Rattle.explains.specs.declared.Explained.TheVariants.{Nothing}
+use Rattle.std.proofs.Common.{None}
 use Rattle.explain_lines.specs.Lines.{explained_line, chunk_lines}
 use Rattle.explaining.specs.Explained.{explain_form, under_segment, under_call, longest_text, is_chunk, explain_program, RecordSays, FillSays}
 use Rattle.explaining.proofs.Fits.{text-fits, explain_ready}
@@ -43,7 +43,7 @@ module _ (s : State) (mark : ℕ) (content : List ℕ) (t : State) (out left : L
   says_chunk m is p = rw m (is, p)
 
   -- what nothing is explained under
-  says_bare : is_chunk r ≡ false → under_call s (call_of s r) ≡ Nothing → CallSays s mark content t out to left end → RecordSays s mark content t out to left end
+  says_bare : is_chunk r ≡ false → under_call s (call_of s r) ≡ None → CallSays s mark content t out to left end → RecordSays s mark content t out to left end
   unfolding explained_line
   says_bare other none says = rw (other, none) (says.0, put_same out to (sym (append-nil (log_program.text s r))) says.1)
 

@@ -4,7 +4,7 @@ use mathlib.Core.Bool.{true}
 use mathlib.Core.List.{List, []}
 use Prim.Native.Nat.{ℕ, ◌+◌, ◌≤◌, ◌<◌}
 use lib.ListN.{length}
-use Rattle.std.proofs.Common.{Result}
+use Rattle.std.proofs.Common.{Result, Option}
 use Rattle.meaning.specs.declared.Refusal.{Refusal}
 use Rattle.meaning.specs.declared.Kind.{Kind}
 use Rattle.meaning.specs.Sizes.{longest_chunk}
@@ -47,7 +47,7 @@ module _ (d : Desk) (xs first second : List ℕ) where
     left_last k = (slot-numbers (slot_for k m) (bytes_for k (desk m bytes)) (kind_fits k (desk m bytes) left_formed).1).1
 
   -- what is explained under it
-  pub under_is : {k : Kind} {d' : Desk} {a : Result Answer Refusal} {before e : Explained} → k ≡ segment_kind xs → d' ≡ r.desk → a ≡ r.answer → before ≡ gathered_explained (slot_for k d.notes) (bytes_for k d) xs → e ≡ refused_by a before (chunk_explained (chunk_in (side_of k d' []))) → e ≡ under_segment (state d first second) xs
+  pub under_is : {k : Kind} {d' : Desk} {a : Result Answer Refusal} {before e : Option Explained} → k ≡ segment_kind xs → d' ≡ r.desk → a ≡ r.answer → before ≡ gathered_explained (slot_for k d.notes) (bytes_for k d) xs → e ≡ refused_by a before (chunk_explained (chunk_in (side_of k d' []))) → e ≡ under_segment (state d first second) xs
   unfolding under_segment
   under_is {k} kind left answer own is =
       is

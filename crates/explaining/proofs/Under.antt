@@ -8,7 +8,8 @@ use native.Mathlib.Omega.{arith}
 use borrow.Author.Tests.{le-ltb}
 use lib.Dec.{eqb}
 use lib.ListN.{get_or, take}
-use Rattle.std.proofs.Common.{Result, Ok, Err}
+use Rattle.std.proofs.Common.{Result, Ok, Err, Option, None, Some}
+use Rattle.std.specs.Option.{option_or}
 use Rattle.octets.specs.Checks.{check}
 use Rattle.meaning.specs.declared.Refusal.{Refusal}
 use Rattle.meaning.specs.declared.Refusal.TheVariants.{KindDiffers}
@@ -28,10 +29,9 @@ use Rattle.desk.specs.Calls.{State, answer_to, Ready}
 use Rattle.effects.specs.Effects.{slot_holding, clashes, completing, chunk_checks, Leaves, unchanged, spoils, completes}
 use Rattle.effects.proofs.Refusals.{early_numbers, refusal_leaves, of_each, early_number}
 use Rattle.explains.specs.declared.Explained.{Explained}
-use Rattle.explains.specs.declared.Explained.TheVariants.{Nothing, Found, Spoiled}
 use Rattle.explains.specs.Explaining.{explained_values, chunk_explained, gathered_explained}
 use Rattle.explains.proofs.Exactly.{chunk-number, gathered-number}
-use Rattle.explaining.specs.Explained.{or_else, under_segment}
+use Rattle.explaining.specs.Explained.{under_segment}
 
 -- the number that is explained, of a refusal's
 abbrev told : ℕ → ℕ
@@ -42,10 +42,9 @@ abbrev Told : ℕ → Type 0
 Told n = (n ≡ 0 → ⊥) × (n ≡ told n)
 
 -- what has a number goes first
-number_first : (e rest : Explained) → ((explained_values e).number ≡ 0 → ⊥) → or_else e rest ≡ e
-number_first Nothing rest some = absurd (some refl)
-number_first (Found n field at value) rest some = refl
-number_first Spoiled rest some = refl
+number_first : (e rest : Option Explained) → ((explained_values e).number ≡ 0 → ⊥) → option_or e rest ≡ e
+number_first None rest some = absurd (some refl)
+number_first (Some e) rest some = refl
 
 -- what the first checks find, where those and 10 refuse
 then_told : (v : Result Unit Refusal) (t : Bool) (f : Refusal) → (v ≡ Err f → number_of f ≡ told (number_of f)) → and_then v (check t (Err KindDiffers) (Ok tt)) ≡ Err f → checked_number v ≡ told (number_of f)
@@ -55,13 +54,13 @@ then_told (Ok _) false f other e = absurd (fault≢fine (sym e))
 
 module _ (s : State) (xs : List ℕ) (y : Ready s) where
   -- of the segment and its slot as it was
-  abbrev own : Explained
+  abbrev own : Option Explained
   own = gathered_explained (slot_for (segment_kind xs) s.desk.notes) (bytes_for (segment_kind xs) s.desk) xs
 
   abbrev chunk : List ℕ
   chunk = chunk_in (slot_holding s.desk xs)
 
-  own_nothing : segment_checks xs ≡ Ok tt → clashes s.desk xs ≡ false → own ≡ Nothing
+  own_nothing : segment_checks xs ≡ Ok tt → clashes s.desk xs ≡ false → own ≡ None
   unfolding gathered_explained
   own_nothing fine clash = simp (fine, clash)
 

@@ -1,5 +1,6 @@
 -- Document 02, 8/14, and the programs' page: a log with each refusal explained under its line, and chunks by themselves.
-use Rattle.std.specs.Prelude.{ℕ, ◌+◌, ◌≡◌, Bool, cond, List, [], ◌++◌, eqb, length, Result, Ok, Err}
+use Rattle.std.specs.Prelude.{ℕ, ◌+◌, ◌≡◌, Bool, cond, List, [], ◌++◌, eqb, length, Result, Ok, Err, Option, None}
+use Rattle.std.specs.Option.{option_or}
 use Rattle.text.specs.Text.{Put}
 use Rattle.records.specs.declared.Form.TheVariants.{Counted}
 use Rattle.records.specs.Records.{mark_bytes, length_bytes, mark_of, Forms, Record, body_in, last_line}
@@ -13,7 +14,6 @@ use Rattle.desk.specs.Calls.{Call, frame, gathering, segment, State, answer_to}
 use Rattle.lines.specs.Lines.{longest_lines}
 use Rattle.replay.specs.Log.{log_form, call_of, log_program}
 use Rattle.explains.specs.declared.Explained.{Explained}
-use Rattle.explains.specs.declared.Explained.TheVariants.{Nothing, Found, Spoiled}
 use Rattle.explains.specs.Explaining.{chunk_explained, gathered_explained}
 use Rattle.explain_lines.specs.Lines.{explained_line, longest_explained, chunk_lines}
 use Rattle.meaning.specs.declared.Refusal.{Refusal}
@@ -27,18 +27,13 @@ longest_record = mark_bytes + length_bytes + 65535
 
 -- ---- what is explained under the line of a segment
 
-abbrev pub or_else : Explained → Explained → Explained
-or_else Nothing rest = rest
-or_else (Found n field at value) rest = Found n field at value
-or_else Spoiled rest = Spoiled
-
 -- a refusal: what is at fault in the segment itself or with its slot; else in the chunk that the slot then holds
-abbrev pub refused_by : Result Answer Refusal → Explained → Explained → Explained
-refused_by (Ok (Missing n)) own held = Nothing
-refused_by (Ok (NewList k n)) own held = Nothing
-refused_by (Err f) own held = or_else own held
+abbrev pub refused_by : Result Answer Refusal → Option Explained → Option Explained → Option Explained
+refused_by (Ok (Missing n)) own held = None
+refused_by (Ok (NewList k n)) own held = None
+refused_by (Err f) own held = option_or own held
 
-unfoldable pub under_segment : State → List ℕ → Explained
+unfoldable pub under_segment : State → List ℕ → Option Explained
 under_segment s xs =
     let r = answer_to s xs in
     let old = side_of (segment_kind xs) s.desk [] in
@@ -46,9 +41,9 @@ under_segment s xs =
     refused_by r.answer (gathered_explained old.slot old.bytes xs) (chunk_explained (chunk_in new))
 
 -- of the calls that a log makes only a segment is refused
-abbrev pub under_call : State → Call → Explained
-under_call s frame = Nothing
-under_call s gathering = Nothing
+abbrev pub under_call : State → Call → Option Explained
+under_call s frame = None
+under_call s gathering = None
 under_call s (segment c) = under_segment s c.segment
 
 -- ---- what is printed, record by record

@@ -72,7 +72,7 @@ fn kind_in(seg: &[u8]) -> Kind
 }
 
 // The segment itself and the slot of its kind.
-fn explain_before(kind: Kind, desk: &Desk, seg: &[u8]) -> Explained
+fn explain_before(kind: Kind, desk: &Desk, seg: &[u8]) -> Option<Explained>
     ensures { result ≡ gathered_explained (slot_for kind desk.now.notes) (bytes_for kind desk.now) seg.now }
 {
     let slot = notes::own(kind, desk.notes);
@@ -83,7 +83,7 @@ fn explain_before(kind: Kind, desk: &Desk, seg: &[u8]) -> Explained
 }
 
 // The chunk that the slot of a kind holds.
-fn explain_held(kind: Kind, desk: &Desk) -> Explained
+fn explain_held(kind: Kind, desk: &Desk) -> Option<Explained>
     requires { (slot_for kind desk.now.notes).last < most_segments }
     ensures { result ≡ chunk_explained (chunk_in (side_of kind desk.now [])) }
 {
@@ -98,19 +98,16 @@ fn explain_held(kind: Kind, desk: &Desk) -> Explained
 // Only a refusal is explained: what was explained before, or else that chunk.
 fn explain_answer(
     answer: Result<Answer, Refusal>,
-    before: Explained,
+    before: Option<Explained>,
     kind: Kind,
     desk: &Desk,
-) -> Explained
+) -> Option<Explained>
     requires { (slot_for kind desk.now.notes).last < most_segments }
     ensures { result ≡ refused_by answer before (chunk_explained (chunk_in (side_of kind desk.now []))) }
 {
     match answer {
-        Ok(_) => Explained::Nothing,
-        Err(_) => match before {
-            Explained::Nothing => explain_held(kind, desk),
-            _ => before,
-        },
+        Ok(_) => None,
+        Err(_) => before.or_else(|| explain_held(kind, desk)),
     }
 }
 

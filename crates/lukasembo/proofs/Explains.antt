@@ -6,7 +6,7 @@ use Prim.Native.Nat.{ℕ, ◌+◌, ◌≤◌, ◌<◌}
 use native.Mathlib.Omega.{arith}
 use lib.Dec.{eqb, lit<}
 use lib.ListN.{length}
-use Rattle.std.proofs.Common.{Result, Ok, Err}
+use Rattle.std.proofs.Common.{Result, Ok, Err, Option, Some}
 use Rattle.octets.specs.Checks.{check}
 use Rattle.octets.proofs.Laws.{cond_both}
 use Rattle.octets.proofs.Tables.{not_whole_most}
@@ -28,14 +28,14 @@ use Rattle.lukasembo.specs.Explains.{table_number, explained_field, Told}
 
 -- ---- with the number of some checks, and a field whose number fits a byte
 
-abbrev Small : Explained → Type 0
+abbrev Small : Option Explained → Type 0
 Small e = explained_field e < 0x100
 
 checked_small : (v : Result Unit Refusal) → checked_number v < 0x100
 checked_small (Ok _) = lit< tt
 checked_small (Err f) = number_of_small f
 
-small_told : (e : Explained) (v : Result Unit Refusal) → (explained_values e).number ≡ checked_number v → Small e → Told e
+small_told : (e : Option Explained) (v : Result Unit Refusal) → (explained_values e).number ≡ checked_number v → Small e → Told e
 small_told e v is s =
     let n : checked_number v < 0x100 = checked_small v in
     record { number = omega arith; field = omega arith; offset = omega arith }
@@ -75,8 +75,8 @@ segment-row_most n =
     let most : ℕ → Type 0 = λ i. i ≤ 7 in
     cond_both most (eqb n 3) (omega arith) (cond_both most (eqb n 4) (omega arith) (cond_both most (eqb n 5) (omega arith) (cond_both most (eqb n 6) (omega arith) (omega arith))))
 
-segment_small : (n : ℕ) (xs : List ℕ) → Small (segment_fault n xs)
-segment_small n xs = cond_both Small (eqb n 2) (lit< tt) (omega (arith, segment-row_most n))
+segment_small : (n : ℕ) (xs : List ℕ) → Small (Some (segment_fault n xs))
+segment_small n xs = cond_both (λ (e : Explained). Small (Some e)) (eqb n 2) (lit< tt) (omega (arith, segment-row_most n))
 
 pub segment_told : (xs : List ℕ) → Told (segment_explained xs)
 unfolding segment_explained
@@ -84,8 +84,8 @@ segment_told xs =
     let v : Result Unit Refusal = segment_checks xs in
     small_told (segment_explained xs) v (segment-number xs) (cond_both Small (eqb (checked_number v) 0) (lit< tt) (segment_small (checked_number v) xs))
 
-clash_small : (s : Slot) (bytes xs : List ℕ) → Small (clash_fault s bytes xs)
-clash_small s bytes xs = cond_both Small s.spoiled (lit< tt) (cond_both Small (not (eqb s.last (last_in xs))) (segment_small 7 xs) (lit< tt))
+clash_small : (s : Slot) (bytes xs : List ℕ) → Small (Some (clash_fault s bytes xs))
+clash_small s bytes xs = cond_both (λ (e : Explained). Small (Some e)) s.spoiled (lit< tt) (cond_both (λ (e : Explained). Small (Some e)) (not (eqb s.last (last_in xs))) (segment_small 7 xs) (lit< tt))
 
 pub gathered_told : (s : Slot) (bytes xs : List ℕ) → Told (gathered_explained s bytes xs)
 unfolding gathered_explained

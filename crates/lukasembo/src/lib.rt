@@ -368,30 +368,30 @@ fn field_number(field: Field) -> u16
     }
 }
 
-fn pack_explained(explained: Explained) -> Explanation
+fn pack_explained(explained: Option<Explained>) -> Explanation
     ensures { ExplainSays explained result.answer result.value }
 {
     match explained {
-        Explained::Nothing => explanation_of(0, 0),
-        Explained::Found {
+        None => Explanation {
+            answer: 0,
+            value: 0,
+        },
+        Some(Explained::Found {
             number,
             field,
             at,
             value,
-        } => {
+        }) => {
             let low = number as u64 + field_number(field) as u64 * 0x100;
-            explanation_of(low + at as u64 * 0x100000000, value as u64)
+            Explanation {
+                answer: low + at as u64 * 0x100000000,
+                value: value as u64,
+            }
         }
-        Explained::Spoiled => explanation_of(0x307, 0),
-    }
-}
-
-fn explanation_of(answer: u64, value: u64) -> Explanation
-    ensures { (result.answer ≡ answer) × (result.value ≡ value) }
-{
-    Explanation {
-        answer: answer,
-        value: value,
+        Some(Explained::Spoiled) => Explanation {
+            answer: 0x307,
+            value: 0,
+        },
     }
 }
 

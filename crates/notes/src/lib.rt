@@ -38,7 +38,8 @@ impl Notes {
         }
     }
 
-    // The same numbers, copied field by field: so no byte between the fields is copied, which costs time in a loop. Internal.
+    // The same numbers. Internal.
+    // Stays: copied field by field, so that no byte between the fields is copied, which costs time in the loops of `replay` and `explaining`.
     pub fn anew(self) -> Notes
         ensures { result ≡ self }
     {

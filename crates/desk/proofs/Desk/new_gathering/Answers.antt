@@ -1,10 +1,12 @@
 -- `desk::Desk::new_gathering` meets its contract: fresh, or the gathering's numbers and no bytes. Assumes nothing.
-use mathlib.Core.Path.{sym, ◌∙◌}
-use Rattle.desk.proofs.Laws.{gathering_bad, gathering_fit}
+use mathlib.Core.Path.{ap, ◌∙◌}
+use mathlib.Core.Bool.{cond}
+use mathlib.Core.List.{◌++◌}
+use Rattle.slots.specs.Slots.{no_bytes}
+use Rattle.notes.specs.declared.Notes.{Notes}
+use Rattle.desk.specs.Desks.{desk, fresh, well_formed, new_gathering}
 use Rattle.desk.proofs.Desk.new_gathering.Goals as goal
 
-pub returns-then-not-well_formed : goal.returns-then-not-well_formed
-returns-then-not-well_formed c = c.fresh.ensures ∙ sym (gathering_bad _ (sym c.well_formed-2.ensures ∙ c.if-not-well_formed.true))
-
 pub returns : goal.returns
-returns c = c.bare.ensures ∙ gathering_fit _ _ (sym c.well_formed-2.ensures ∙ c.if-not-well_formed.false) c.gathering.ensures
+unfolding new_gathering
+returns c = c.emptied.ensures ∙ ap (λ (m : Notes). cond (well_formed c.args.self) (desk m (no_bytes ++ no_bytes)) fresh) c.gathering.ensures

@@ -2,6 +2,7 @@
 use mathlib.Core.Path.{ap}
 use native.Mathlib.Omega.{arith}
 use mathlib.Core.List.{◌++◌}
+use Rattle.std.proofs.Common.{Option}
 use Rattle.text.proofs.Laws.{put_both, put_same}
 use Rattle.segments.specs.Segment.{segment_kind}
 use Rattle.lines.specs.Lines.{answer_lines}
@@ -29,4 +30,4 @@ returns-clause-put c =
     let s = c.segment-a in
     let explained = under_is a.desk xs a.first a.second c.kind_in-kind.ensures s.ensures.left.0 s.ensures.answer_value c.explain_before-before.ensures c.explain_answer-explained.ensures in
     let front = answer_lines (segment_after a.desk xs a.first a.second).answer (shown (segment_kind xs) s.new.self.desk s.new.self.first s.new.self.second) in
-    put_same c.args.out.now c.args.to (ap (λ (e : Explained). front ++ explained_line e) explained) (put_both front (explained_line c.explain_answer-explained.result) c.args.out.now c.args.to s.ensures.put c.put_explained.ensures)
+    put_same c.args.out.now c.args.to (ap (λ (e : Option Explained). front ++ explained_line e) explained) (put_both front (explained_line c.explain_answer-explained.result) c.args.out.now c.args.to s.ensures.put c.put_explained.ensures)
