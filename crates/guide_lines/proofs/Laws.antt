@@ -1,7 +1,7 @@
 -- Laws of the lines: what is left, put here, makes the whole; a name byte by byte, and the names of a section one by one; and how long they all are. Assumes nothing.
-use mathlib.Core.Path.{◌≡◌, refl, sym, ap, ap₂, subst, ◌∙◌}
+use mathlib.Core.Path.{◌≡◌, refl, sym, ap, ap₂, ◌∙◌}
 use mathlib.Core.Bool.{and-false}
-use mathlib.Core.List.{List, [], ◌∷◌, ◌++◌, flat_map, append-nil}
+use mathlib.Core.List.{List, [], ◌∷◌, ◌++◌, flat_map}
 use mathlib.Core.Logic.{◌⊎◌, inl, inr}
 use Prim.Native.Nat.{ℕ, suc, ◌+◌, ◌-◌, ◌*◌, ◌^◌, ◌≤◌, ◌<◌}
 use Prim.Native.Char.{code}
@@ -11,6 +11,7 @@ use borrow.Author.Tests.{eq-eqb, ne_eqb, le-leb, lt-leb}
 use lib.Dec.{eqb, leb}
 use lib.ListN.{length, get_or, take, drop, length-append, drop_of_length-le}
 use lib.Seq.{drop-cons, sets}
+use Rattle.std.specs.Prelude.{Result, Ok, Err}
 use Rattle.octets.proofs.Laws.{either}
 use Rattle.octets.proofs.Stores.{sets-append}
 use Rattle.text.specs.Text.{text, newline, decimal, numbered, refused_with, Put}
@@ -24,10 +25,10 @@ use Rattle.sections.specs.Sizes.{head_bytes, longest_section}
 use Rattle.sections.specs.Walks.{place_of, counted, provider, providers, providers_in, loops}
 use Rattle.sections.specs.Reading.{number_of, offset_of, standing, provider_place, names_from, names_in}
 use Rattle.sections.proofs.Laws.{then_goes, then_there, walk_within}
-use Rattle.sections.proofs.Names.{providers_snoc, providers-inside, in_force_passes, passes-longest, provider_there, total, length-names, names_room}
+use Rattle.sections.proofs.Names.{providers_snoc, providers-inside, in_force_passes, passes-longest, provider_passed, provider_there, total, length-names, names_room}
 use Rattle.guides.specs.declared.Answer.{Answer}
-use Rattle.guides.specs.declared.Answer.TheVariants.{NotOurs, NotYet, Refused, Noted, Repeat}
-use Rattle.guide_lines.specs.Lines.{escaped, escaped_name, name_text, name_line, name_lines, refusal_line, answer_line, names_under, NamesHad, section_lines, longest_lines}
+use Rattle.guides.specs.declared.Answer.TheVariants.{NotOurs, NotYet, Noted, Repeat}
+use Rattle.guide_lines.specs.Lines.{escaped, escaped_name, name_text, name_line, name_lines, refusal_line, answer_line, NamesHad, section_lines, longest_lines}
 
 -- ---- what is left, put here, makes the whole
 
@@ -73,10 +74,6 @@ module _ (b : ℕ) where
       (λ t. either (leb b 0x7E) (λ u. rw (f, t, u) (omega arith)) (λ u. rw (f, t, u) (omega (arith, length-hex (b ∷ [])))))
       (λ t. rw (f, t) (omega (arith, length-hex (b ∷ [])))))
 
--- the part of a list that is its byte at a place
-pub byte_part : (xs : List ℕ) (i : ℕ) → i < length xs → take (i + 1 - i) (drop i xs) ≡ get_or xs i 0 ∷ []
-byte_part xs i h = let one : i + 1 - i ≡ 1 = omega arith in rw one (ap (take 1) (drop-cons xs i 0 h))
-
 -- ---- a name byte by byte
 
 pub escaped_next : (name : List ℕ) (i : ℕ) → i < length name → escaped_name (drop i name) ≡ escaped (get_or name i 0) ++ escaped_name (drop (i + 1) name)
@@ -116,9 +113,12 @@ module _ (xs : List ℕ) where
   unfolding providers
   place_first = refl
 
-  module _ (n place : ℕ) (f : standing xs ≡ InForce) (h : n < providers_in xs) (e : place ≡ provider_place xs n) where
+  module _ (n place : ℕ) (f : standing xs ≡ Ok InForce) (h : n < providers_in xs) (e : place ≡ provider_place xs n) where
     pub name-inside : place + 1 + get_or xs place 0 ≤ length xs
     name-inside = rw e (omega (arith, (provider_there xs n f h).1))
+
+    pub place_passed : provider xs place ≡ Ok (place_of (provider xs place))
+    place_passed = rw e (provider_passed xs n f h).1
 
     pub place_next : place_of (provider xs place) ≡ provider_place xs (n + 1)
     place_next = rw (e, add-one n) (ap place_of (sym (providers_snoc xs n head_bytes ∙ then_there (provider xs) (provider_there xs n f h).0)))
@@ -147,7 +147,7 @@ length-lines n (name ∷ more) h =
       length-lines (suc n) more (omega arith),
     )
 
-pub names_fit : (xs : List ℕ) → standing xs ≡ InForce → get_or xs 8 0 < 256 → length (name_lines 0 (names_in xs)) ≤ 255 * 10 + 4 * longest_section
+pub names_fit : (xs : List ℕ) → standing xs ≡ Ok InForce → get_or xs 8 0 < 256 → length (name_lines 0 (names_in xs)) ≤ 255 * 10 + 4 * longest_section
 unfolding loops
 names_fit xs f byte =
     let p = in_force_passes f in
@@ -177,47 +177,18 @@ length_refusal f h =
 
 -- ---- every section's lines fit, where the numbers in its answer and the count of its names are of 16 bits and of eight
 
-abbrev pub Small : Answer → Type 0
-Small NotOurs = Unit {0}
-Small NotYet = Unit {0}
-Small (Refused f) = offset_of f < 2 ^ 16
-Small (Noted missing) = missing < 2 ^ 16
-Small (Repeat missing) = missing < 2 ^ 16
+abbrev pub Small : Result Answer Refusal → Type 0
+Small (Ok NotOurs) = Unit {0}
+Small (Ok NotYet) = Unit {0}
+Small (Err f) = offset_of f < 2 ^ 16
+Small (Ok (Noted missing)) = missing < 2 ^ 16
+Small (Ok (Repeat missing)) = missing < 2 ^ 16
 
-pub lines_fit : (answer : Answer) (xs : List ℕ) → NamesHad answer xs → Small answer → get_or xs 8 0 < 256 → length (section_lines answer xs) ≤ longest_lines
+pub lines_fit : (answer : Result Answer Refusal) (xs : List ℕ) → NamesHad answer xs → Small answer → get_or xs 8 0 < 256 → length (section_lines answer xs) ≤ longest_lines
 unfolding answer_line
-lines_fit NotOurs xs had small byte = omega arith
-lines_fit NotYet xs had small byte = omega arith
-lines_fit (Refused f) xs had small byte = omega (arith, length-append (refusal_line f) [], length_refusal f (omega arith))
-lines_fit (Noted missing) xs had small byte =
+lines_fit (Ok NotOurs) xs had small byte = omega arith
+lines_fit (Ok NotYet) xs had small byte = omega arith
+lines_fit (Err f) xs had small byte = omega (arith, length-append (refusal_line f) [], length_refusal f (omega arith))
+lines_fit (Ok (Noted missing)) xs had small byte =
     omega (arith, length-append (text "SE 0 missing " ++ numbered missing) (name_lines 0 (names_in xs)), length-numbered 4 missing (omega arith), names_fit xs had byte)
-lines_fit (Repeat missing) xs had small byte = omega (arith, length-append (text "SE 0 repeat missing " ++ numbered missing) [], length-numbered 4 missing (omega arith))
-
--- ---- the lines of a section, by its answer
-
-module _ {answer : Answer} (xs : List ℕ) where
-  by_answer : {given : Answer} → answer ≡ given → answer_line given ++ names_under given xs ≡ section_lines answer xs
-  by_answer e = ap (λ (a : Answer). section_lines a xs) (sym e)
-
-  pub foreign_lines : answer ≡ NotOurs → text "SE not ours\n" ≡ section_lines answer xs
-  unfolding answer_line
-  foreign_lines e = by_answer e
-
-  pub early_lines : answer ≡ NotYet → text "SE not yet\n" ≡ section_lines answer xs
-  unfolding answer_line
-  early_lines e = by_answer e
-
-  pub refused_lines : (f : Refusal) → answer ≡ Refused f → refusal_line f ≡ section_lines answer xs
-  unfolding answer_line
-  refused_lines f e = sym (append-nil (refusal_line f)) ∙ by_answer e
-
-  pub noted_lines : (missing : ℕ) → answer ≡ Noted missing → (text "SE 0 missing " ++ numbered missing) ++ name_lines 0 (names_in xs) ≡ section_lines answer xs
-  unfolding answer_line
-  noted_lines missing e = by_answer e
-
-  pub repeat-lines : (missing : ℕ) → answer ≡ Repeat missing → text "SE 0 repeat missing " ++ numbered missing ≡ section_lines answer xs
-  unfolding answer_line
-  repeat-lines missing e = sym (append-nil (text "SE 0 repeat missing " ++ numbered missing)) ∙ by_answer e
-
-  pub noted_in_force : (missing : ℕ) → answer ≡ Noted missing → NamesHad answer xs → standing xs ≡ InForce
-  noted_in_force missing e had = subst (λ (a : Answer). NamesHad a xs) e had
+lines_fit (Ok (Repeat missing)) xs had small byte = omega (arith, length-append (text "SE 0 repeat missing " ++ numbered missing) [], length-numbered 4 missing (omega arith))

@@ -1,5 +1,5 @@
 -- The program `guide`: the lines for each answer, and those of a section's names, in which no byte can steer a terminal.
-use Rattle.std.specs.Prelude.{ℕ, suc, ◌+◌, ◌*◌, ◌≡◌, cond, ◌&&◌, eqb, leb, length}
+use Rattle.std.specs.Prelude.{ℕ, suc, ◌+◌, ◌*◌, ◌≡◌, cond, ◌&&◌, eqb, leb, length, Result, Ok, Err}
 use Prim.Native.Char.{code}
 use mathlib.Core.List.{List, [], ◌∷◌, ◌++◌, flat_map}
 use Rattle.text.specs.Text.{text, newline, decimal, numbered, refused_with}
@@ -9,7 +9,7 @@ use Rattle.sections.specs.declared.Standing.TheVariants.{InForce}
 use Rattle.sections.specs.Sizes.{longest_section}
 use Rattle.sections.specs.Reading.{number_of, offset_of, standing, names_in}
 use Rattle.guides.specs.declared.Answer.{Answer}
-use Rattle.guides.specs.declared.Answer.TheVariants.{NotOurs, NotYet, Refused, Noted, Repeat}
+use Rattle.guides.specs.declared.Answer.TheVariants.{NotOurs, NotYet, Noted, Repeat}
 
 -- ---- a name: bytes 20 to 7E as they are, but a backslash as two; any other as \x and two digits
 
@@ -39,30 +39,30 @@ name_lines n (name ∷ more) = name_line n name ++ name_lines (suc n) more
 abbrev pub refusal_line : Refusal → List ℕ
 refusal_line f = text "SE " ++ refused_with 23 (number_of f) (offset_of f)
 
-unfoldable pub answer_line : Answer → List ℕ
-answer_line NotOurs = text "SE not ours\n"
-answer_line NotYet = text "SE not yet\n"
-answer_line (Refused f) = refusal_line f
-answer_line (Noted missing) = text "SE 0 missing " ++ numbered missing
-answer_line (Repeat missing) = text "SE 0 repeat missing " ++ numbered missing
+unfoldable pub answer_line : Result Answer Refusal → List ℕ
+answer_line (Ok NotOurs) = text "SE not ours\n"
+answer_line (Ok NotYet) = text "SE not yet\n"
+answer_line (Err f) = refusal_line f
+answer_line (Ok (Noted missing)) = text "SE 0 missing " ++ numbered missing
+answer_line (Ok (Repeat missing)) = text "SE 0 repeat missing " ++ numbered missing
 
 -- the names of a section xs stand under its line where it is noted
-abbrev pub names_under : Answer → List ℕ → List ℕ
-names_under (Noted missing) xs = name_lines 0 (names_in xs)
-names_under NotOurs xs = []
-names_under NotYet xs = []
-names_under (Refused f) xs = []
-names_under (Repeat missing) xs = []
+abbrev pub names_under : Result Answer Refusal → List ℕ → List ℕ
+names_under (Ok (Noted missing)) xs = name_lines 0 (names_in xs)
+names_under (Ok NotOurs) xs = []
+names_under (Ok NotYet) xs = []
+names_under (Err f) xs = []
+names_under (Ok (Repeat missing)) xs = []
 
 -- so it is in force
-abbrev pub NamesHad : Answer → List ℕ → Type 0
-NamesHad (Noted missing) xs = standing xs ≡ InForce
-NamesHad NotOurs xs = Unit {0}
-NamesHad NotYet xs = Unit {0}
-NamesHad (Refused f) xs = Unit {0}
-NamesHad (Repeat missing) xs = Unit {0}
+abbrev pub NamesHad : Result Answer Refusal → List ℕ → Type 0
+NamesHad (Ok (Noted missing)) xs = standing xs ≡ Ok InForce
+NamesHad (Ok NotOurs) xs = Unit {0}
+NamesHad (Ok NotYet) xs = Unit {0}
+NamesHad (Err f) xs = Unit {0}
+NamesHad (Ok (Repeat missing)) xs = Unit {0}
 
-abbrev pub section_lines : Answer → List ℕ → List ℕ
+abbrev pub section_lines : Result Answer Refusal → List ℕ → List ℕ
 section_lines answer xs = answer_line answer ++ names_under answer xs
 
 -- room for the lines of any section: its own, 255 names' words and numbers, and four characters for each byte

@@ -1,7 +1,7 @@
 // The lines of the program `guide`, put at a place of an output; each function answers the place after what it has put.
 #![tactic(auto)]
 
-ghost use Rattle.std.specs.Prelude.{◌≡◌, ◌++◌, ◌+◌, ◌≤◌, ◌<◌, length, get_or};
+ghost use Rattle.std.specs.Prelude.{◌≡◌, ◌++◌, ◌+◌, ◌≤◌, length, Result, Ok};
 ghost use Rattle.text.specs.Text.{numbered, Put};
 ghost use Rattle.sections.specs.declared.Standing.TheVariants.{InForce};
 ghost use Rattle.sections.specs.Reading.{standing, names_in};
@@ -15,12 +15,11 @@ pub const LONGEST_LINES: usize = 24 + 255 * 10 + 4 * 4096;
 
 // ---- names
 
-// The byte at a place of a name, so that it can't steer a terminal.
-fn put_byte(name: &[u8], i: usize, out: &mut [u8], to: usize) -> usize
-    requires { (i < length name.now) × (to + length (escaped (get_or name.now i 0)) ≤ length out.old) }
-    ensures { Put (escaped (get_or name.now i 0)) out.old to out.new result }
+// A byte of a name, so that it can't steer a terminal.
+fn put_byte(byte: u8, out: &mut [u8], to: usize) -> usize
+    requires { to + length (escaped byte) ≤ length out.old }
+    ensures { Put (escaped byte) out.old to out.new result }
 {
-    let byte = name[i];
     match byte {
         b'\\' => text::put_text(b"\\\\", out, to),
         0x20..=0x7E => {
@@ -29,7 +28,7 @@ fn put_byte(name: &[u8], i: usize, out: &mut [u8], to: usize) -> usize
         }
         _ => {
             let at = text::put_text(b"\\x", out, to);
-            hex_text::put_hex(&name[i..i + 1], out, at)
+            hex_text::put_hex(&[byte], out, at)
         }
     }
 }
@@ -39,11 +38,9 @@ fn put_escaped(name: &[u8], out: &mut [u8], to: usize) -> usize
     requires { to + length (escaped_name name.now) ≤ length out.old }
     ensures { Put (escaped_name name.now) out.old to out.new result }
 {
-    let mut i = 0;
     let mut at = to;
-    while i < name.len() {
-        at = put_byte(name, i, out, at);
-        i += 1;
+    for &byte in name {
+        at = put_byte(byte, out, at);
     }
     at
 }
@@ -53,7 +50,7 @@ fn put_name(name: &[u8], out: &mut [u8], to: usize) -> usize
     requires { to + length (name_text name.now) ≤ length out.old }
     ensures { Put (name_text name.now) out.old to out.new result }
 {
-    if name.len() == 0 {
+    if name.is_empty() {
         return to;
     }
     let at = text::put_text(b" ", out, to);
@@ -73,19 +70,16 @@ fn put_name_line(n: usize, name: &[u8], out: &mut [u8], to: usize) -> usize
 
 // The lines of a section's names, of one in force.
 fn put_names(section: &[u8], out: &mut [u8], to: usize) -> usize
-    requires { (standing section.now ≡ InForce) × (to + length (name_lines 0 (names_in section.now)) ≤ length out.old) }
+    requires { (standing section.now ≡ Ok InForce) × (to + length (name_lines 0 (names_in section.now)) ≤ length out.old) }
     ensures { Put (name_lines 0 (names_in section.now)) out.old to out.new result }
 {
-    let count = section[8] as usize;
-    let mut n = 0;
     let mut place = HEAD_BYTES;
     let mut at = to;
-    while n < count {
-        let length = section[place] as usize;
+    for n in 0..section[8] as usize {
         let from = place + 1;
+        let length = section[place] as usize;
         at = put_name_line(n, &section[from..from + length], out, at);
-        place = sections::place_of(sections::step_provider(section, place));
-        n += 1;
+        place = sections::step_provider(section, place).unwrap();
     }
     at
 }
@@ -97,10 +91,8 @@ fn put_refusal(refusal: Refusal, out: &mut [u8], to: usize) -> usize
     requires { to + longest_lines ≤ length out.old }
     ensures { Put (refusal_line refusal) out.old to out.new result }
 {
-    let number = sections::number_of(refusal);
-    let offset = sections::offset_of(refusal);
     let at = text::put_text(b"SE ", out, to);
-    text::put_refused(23, number, offset, out, at)
+    text::put_refused(23, u8::from(refusal), refusal.offset(), out, at)
 }
 
 // The line of a section that was read.
@@ -113,19 +105,25 @@ fn put_missing(words: &[u8], missing: u16, out: &mut [u8], to: usize) -> usize
 }
 
 // The lines of a section that was answered so.
-pub fn put_section(answer: Answer, section: &[u8], out: &mut [u8], to: usize) -> usize
+#[tactic(auto, unfolding(crate::specs::Lines::answer_line))]
+pub fn put_section(
+    answer: Result<Answer, Refusal>,
+    section: &[u8],
+    out: &mut [u8],
+    to: usize,
+) -> usize
     requires names_had { NamesHad answer section.now }
     requires longest_lines_in_bounds { to + longest_lines ≤ length out.old }
     ensures { Put (section_lines answer section.now) out.old to out.new result }
 {
     match answer {
-        Answer::NotOurs => text::put_text(b"SE not ours\n", out, to),
-        Answer::NotYet => text::put_text(b"SE not yet\n", out, to),
-        Answer::Refused(refusal) => put_refusal(refusal, out, to),
-        Answer::Noted { missing } => {
+        Ok(Answer::NotOurs) => text::put_text(b"SE not ours\n", out, to),
+        Ok(Answer::NotYet) => text::put_text(b"SE not yet\n", out, to),
+        Ok(Answer::Noted { missing }) => {
             let at = put_missing(b"SE 0 missing ", missing, out, to);
             put_names(section, out, at)
         }
-        Answer::Repeat { missing } => put_missing(b"SE 0 repeat missing ", missing, out, to),
+        Ok(Answer::Repeat { missing }) => { put_missing(b"SE 0 repeat missing ", missing, out, to) }
+        Err(refusal) => put_refusal(refusal, out, to),
     }
 }

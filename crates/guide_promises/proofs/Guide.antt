@@ -6,8 +6,10 @@ use mathlib.Core.List.{List, [], ◌++◌}
 use Prim.Native.Nat.{ℕ, ◌≤◌}
 use lib.Dec.{ltb, eqb}
 use lib.ListN.{length, get_or}
+use Rattle.std.specs.Prelude.{Result, Ok}
 use Rattle.octets.specs.Bits.{Bytes}
 use Rattle.octets.specs.Checks.{check}
+use Rattle.sections.specs.declared.Refusal.{Refusal}
 use Rattle.sections.specs.declared.Standing.TheVariants.{InForce}
 use Rattle.sections.specs.Layout.{Section, wire, Formed, Carries}
 use Rattle.sections.specs.Walks.{place_of, loops}
@@ -46,14 +48,14 @@ module _ (g : Gathering) (xs : List ℕ) where
   not_yet_exactly = results.early_exactly g xs
 
   -- all of these leave the gathering as found; so does a repeat
-  pub left_as_found : (standing xs ≡ InForce → ⊥) → (told g xs).gathering ≡ g
+  pub left_as_found : (standing xs ≡ Ok InForce → ⊥) → (told g xs).gathering ≡ g
   left_as_found = results.left_as_found g xs
 
-  pub repeat_as_found : standing xs ≡ InForce → is_noted (begun_as g (version_in xs) (last_in xs)).noted (number_in xs) ≡ true → (told g xs).gathering ≡ g
+  pub repeat_as_found : standing xs ≡ Ok InForce → is_noted (begun_as g (version_in xs) (last_in xs)).noted (number_in xs) ≡ true → (told g xs).gathering ≡ g
   repeat_as_found = results.repeat_as_found g xs
 
   -- a section of another version or last number starts anew
-  pub starts_anew : (g.version ≡ version_in xs → g.last ≡ last_in xs → ⊥) → standing xs ≡ InForce → told g xs ≡ told (empty_of (version_in xs) (last_in xs)) xs
+  pub starts_anew : (g.version ≡ version_in xs → g.last ≡ last_in xs → ⊥) → standing xs ≡ Ok InForce → told g xs ≡ told (empty_of (version_in xs) (last_in xs)) xs
   starts_anew = results.starts_anew g xs
 
   -- so many may be missing; a gathering has four words
@@ -61,7 +63,7 @@ module _ (g : Gathering) (xs : List ℕ) where
   most_missing = results.most_missing g xs
 
 -- two results can't both meet the promise
-pub one_result : (g : Gathering) (xs : List ℕ) {a b : Answer} {h k : Gathering} → SectionSays g xs a h → SectionSays g xs b k → (a ≡ b) × (h ≡ k)
+pub one_result : (g : Gathering) (xs : List ℕ) {a b : Result Answer Refusal} {h k : Gathering} → SectionSays g xs a h → SectionSays g xs b k → (a ≡ b) × (h ≡ k)
 one_result = results.one_result
 
 -- ---- a section: Table 7.4 and the reader
@@ -92,7 +94,7 @@ pub one_section : (s t : Section) → Formed s → Formed t → wire s ≡ wire 
 one_section = complete.one_section
 
 -- what is not ours, not yet in force or refused has no names
-pub no_names : (xs : List ℕ) → (standing xs ≡ InForce → ⊥) → (n : ℕ) → name_in xs n ≡ []
+pub no_names : (xs : List ℕ) → (standing xs ≡ Ok InForce → ⊥) → (n : ℕ) → name_in xs n ≡ []
 no_names = had.no_names
 
 -- ---- a whole table: sections that are laid out, of one version and last number, in any order and any of them again

@@ -20,7 +20,7 @@ use std::io::{Read, Write};
 
 // ---- a section
 
-pub fn check_section(section: &[u8]) -> Standing
+pub fn check_section(section: &[u8]) -> Result<Standing, Refusal>
     ensures { result ≡ standing section.now }
 {
     sections::check_section(section)
@@ -29,13 +29,13 @@ pub fn check_section(section: &[u8]) -> Standing
 pub fn number_of(refusal: Refusal) -> u8
     ensures { result ≡ number_of refusal }
 {
-    sections::number_of(refusal)
+    u8::from(refusal)
 }
 
 pub fn offset_of(refusal: Refusal) -> u16
     ensures { result ≡ offset_of refusal }
 {
-    sections::offset_of(refusal)
+    refusal.offset()
 }
 
 pub fn name_count(section: &[u8]) -> usize
@@ -71,7 +71,7 @@ pub fn take(g: Gathering, section: &[u8]) -> Told
     g.take(section)
 }
 
-pub fn values_of(answer: Answer) -> Values
+pub fn values_of(answer: Result<Answer, Refusal>) -> Values
     ensures { result ≡ guide_values answer }
 {
     guides::values_of(answer)

@@ -7,9 +7,11 @@ use native.Mathlib.Omega.{arith}
 use borrow.Author.Tests.{eqb-true, eqb-false}
 use lib.Dec.{eqb}
 use lib.ListN.{length}
+use Rattle.std.specs.Prelude.{Result, Ok}
 use Rattle.octets.specs.Checks.{among}
 use Rattle.octets.specs.Each.{Each}
 use Rattle.octets.proofs.Laws.{test_again, either, each_right}
+use Rattle.sections.specs.declared.Refusal.{Refusal}
 use Rattle.guides.specs.declared.Answer.{Answer}
 use Rattle.guides.specs.declared.Answer.TheVariants.{Noted, Repeat}
 use Rattle.guides.specs.Gathering.{missing_of, guide_values}
@@ -57,7 +59,7 @@ module _ (last : ℕ) where
   dues_append : (came ns more : List ℕ) → dues_from last came (ns ++ more) ≡ dues_from last came ns ++ dues_from last (arrived came ns) more
   unfolding dues_from
   dues_append came [] more = refl
-  dues_append came (n ∷ ns) more = ap (λ (r : List Answer). due last came n ∷ r) (dues_append (n ∷ came) ns more)
+  dues_append came (n ∷ ns) more = ap (λ (r : List (Result Answer Refusal)). due last came n ∷ r) (dues_append (n ∷ came) ns more)
 
   -- as long as a number does not come, some are missing
   dues_short : (number : ℕ) → number ≤ last → (came ns : List ℕ) → among came number ≡ false → among ns number ≡ false → Each (λ a. 0 < (guide_values a).missing) (dues_from last came ns)
@@ -71,11 +73,11 @@ module _ (last : ℕ) where
       (one, dues_short number l (n ∷ came) more still other.1)
 
   -- once each has come, all that come are repeats and none is missing
-  dues_done : (came ns : List ℕ) → All last came → Each (λ n. n ≤ last) ns → Each (λ a. a ≡ Repeat 0) (dues_from last came ns)
+  dues_done : (came ns : List ℕ) → All last came → Each (λ n. n ≤ last) ns → Each (λ a. a ≡ Ok (Repeat 0)) (dues_from last came ns)
   unfolding dues_from
   dues_done came [] all inside = tt
   dues_done came (n ∷ more) all inside = (
-    simp (all n inside.0) (ap Repeat (missing_none (among came) last all)),
+    simp (all n inside.0) (ap (λ (k : ℕ). Ok (Repeat k)) (missing_none (among came) last all)),
     dues_done (n ∷ came) more (λ m l. simp (all m l) (or-true (eqb m n))) inside.1,
   )
 
@@ -114,7 +116,7 @@ module _ (last : ℕ) where
       let r = split [] ns (λ none. false≢true (none 0 (omega arith))) (λ m l. arrived_all ns m ∙ all m l) in
       let came : List ℕ = arrived [] r.before in
       let new : among r.before r.number ≡ false = sym (arrived_all r.before r.number) ∙ r.new in
-      let ends : due last came r.number ≡ Noted 0 = simp r.new (ap Noted (missing_none (among (r.number ∷ came)) last r.all)) in
+      let ends : due last came r.number ≡ Ok (Noted 0) = simp r.new (ap (λ (k : ℕ). Ok (Noted k)) (missing_none (among (r.number ∷ came)) last r.all)) in
       let rest = each_right (λ n. n ≤ last) r.before (r.number ∷ r.after) (subst (Each (λ n. n ≤ last)) r.order inside) in
       record {
         before = r.before;
@@ -127,7 +129,7 @@ module _ (last : ℕ) where
         all = λ m l. among_snoc r.before r.number m ∙ ap (λ (t : Bool). eqb m r.number || t) (sym (arrived_all r.before m)) ∙ r.all m l;
         answered = ap (dues_from last []) r.order
             ∙ dues_append [] r.before (r.number ∷ r.after)
-            ∙ ap (λ (a : Answer). dues_from last [] r.before ++ a ∷ dues_from last (r.number ∷ came) r.after) ends;
+            ∙ ap (λ (a : Result Answer Refusal). dues_from last [] r.before ++ a ∷ dues_from last (r.number ∷ came) r.after) ends;
         place = length_dues [] r.before;
         short = dues_short r.number rest.0 [] r.before refl new;
         done = dues_done (r.number ∷ came) r.after r.all rest.1;

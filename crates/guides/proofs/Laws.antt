@@ -1,17 +1,21 @@
 -- Laws of the gathering in the code's own terms. Assumes nothing.
-use mathlib.Core.Path.{◌≡◌, refl, sym, ap, ap₂, subst, ◌∙◌}
+use mathlib.Core.Path.{◌≡◌, refl, sym, ap, subst}
 use mathlib.Core.Bool.{true, false, cond}
 use mathlib.Core.List.{List}
-use Prim.Native.Nat.{ℕ}
+use Prim.Native.Nat.{ℕ, ◌≤◌}
 use borrow.Author.Tests.{eq-eqb, eqb-true}
 use lib.Dec.{eqb}
+use lib.ListN.{length}
 use Rattle.octets.proofs.Laws.{either}
-use Rattle.sections.specs.declared.Standing.{Standing}
+use Rattle.std.specs.Prelude.{Ok}
+use Rattle.sections.specs.declared.Standing.TheVariants.{InForce}
+use Rattle.sections.specs.Sizes.{head_bytes}
 use Rattle.sections.specs.Reading.{standing}
+use Rattle.sections.proofs.Names.{in_force_passes}
 use Rattle.guides.specs.declared.Gathering.{Gathering}
-use Rattle.guides.specs.declared.Answer.{Answer}
+use Rattle.guides.specs.declared.Told.{Told}
 use Rattle.guides.specs.declared.Answer.TheVariants.{Noted, Repeat}
-use Rattle.guides.specs.Gathering.{is_noted, noting, missing_of, gathering, empty_of, missing_in, Result, result, begun_as, noted_as, read_as, result_by, told, TellsSo, SectionSays}
+use Rattle.guides.specs.Gathering.{is_noted, empty_of, missing_in, result, begun_as, noted_as, read_as}
 
 -- ---- a gathering of this version and last number, or another one
 
@@ -37,42 +41,20 @@ module _ (g : Gathering) (version last : ℕ) where
 -- ---- a section read, to a gathering b of its version and last number
 
 module _ (b : Gathering) (number : ℕ) where
-  abbrev pub read_to : Result
-  read_to = cond (is_noted b.noted number) (result (Repeat (missing_in b)) b) (result (Noted (missing_in (noted_as b number))) (noted_as b number))
+  abbrev pub read_to : Told
+  read_to = cond (is_noted b.noted number) (result (Ok (Repeat (missing_in b))) b) (result (Ok (Noted (missing_in (noted_as b number)))) (noted_as b number))
 
-  pub read-repeat : is_noted b.noted number ≡ true → read_to ≡ result (Repeat (missing_in b)) b
+  pub read-repeat : is_noted b.noted number ≡ true → read_to ≡ result (Ok (Repeat (missing_in b))) b
   read-repeat t = simp t refl
 
-  pub read_noted : is_noted b.noted number ≡ false → read_to ≡ result (Noted (missing_in (noted_as b number))) (noted_as b number)
+  pub read_noted : is_noted b.noted number ≡ false → read_to ≡ result (Ok (Noted (missing_in (noted_as b number)))) (noted_as b number)
   read_noted t = simp t refl
 
 pub read_begun : (g : Gathering) (version number last : ℕ) {b : Gathering} → b ≡ begun_as g version last → read_as g version number last ≡ read_to b number
 unfolding read_as
 read_begun g version number last is = ap (λ (h : Gathering). read_to h number) (sym is)
 
-tells_same : {u v : Result} {answer : Answer} {after : Gathering} → u ≡ v → TellsSo v answer after → TellsSo u answer after
-tells_same e s = record { answers = s.answers ∙ sym (ap (λ (r : Result). r.answer) e); leaves = s.leaves ∙ sym (ap (λ (r : Result). r.gathering) e) }
+-- ---- a section in force has its head
 
-module _ (g : Gathering) (version number last : ℕ) where
-  -- a repeat, and what is missing to the gathering b
-  pub tells-repeat : (b : Gathering) (missing : ℕ) → b ≡ begun_as g version last → is_noted b.noted number ≡ true → missing ≡ missing_of (is_noted b.noted) last → TellsSo (read_as g version number last) (Repeat missing) b
-  tells-repeat b missing is t e =
-      tells_same (read_begun g version number last is ∙ read-repeat b number t)
-      (record { answers = ap Repeat (e ∙ ap (missing_of (is_noted b.noted)) (sym (begun_is g version last is).1)); leaves = refl })
-
-  -- noted, and what is missing after that
-  pub tells_noted : (b : Gathering) (after : List ℕ) (missing : ℕ) → b ≡ begun_as g version last → is_noted b.noted number ≡ false → after ≡ noting b.noted number → missing ≡ missing_of (is_noted after) last → TellsSo (read_as g version number last) (Noted missing) (gathering version last after)
-  tells_noted b after missing is t n e =
-      let begun = begun_is g version last is in
-      let same : gathering version last after ≡ noted_as b number = ap₂ (λ (v l : ℕ). gathering v l after) (sym begun.0) (sym begun.1) ∙ ap (gathering _ _) n in
-      tells_same (read_begun g version number last is ∙ read_noted b number t) (record { answers = ap Noted (e ∙ ap missing_in same); leaves = same })
-
--- ---- by what a section is
-
-module _ (g : Gathering) (xs : List ℕ) (s : Standing) (is : s ≡ standing xs) {answer : Answer} {after : Gathering} where
-  pub tells_by : TellsSo (result_by s g xs) answer after → SectionSays g xs answer after
-  unfolding told
-  tells_by says = tells_same (ap (λ (v : Standing). result_by v g xs) (sym is)) says
-
-  pub tells-unread : (answer ≡ (result_by s g xs).answer) × (after ≡ (result_by s g xs).gathering) → SectionSays g xs answer after
-  tells-unread u = tells_by (record { answers = u.0; leaves = u.1 })
+pub head_there : (xs : List ℕ) → Ok InForce ≡ standing xs → head_bytes ≤ length xs
+head_there xs e = (in_force_passes (sym e)).head

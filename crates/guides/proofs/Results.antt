@@ -8,24 +8,26 @@ use native.Mathlib.Omega.{arith}
 use borrow.Author.Tests.{eqb-true}
 use lib.Dec.{lit≤, ltb, eqb}
 use lib.ListN.{length, get_or}
+use Rattle.std.specs.Prelude.{Result, Ok, Err}
 use Rattle.octets.specs.Bits.{Bytes}
 use Rattle.octets.specs.Checks.{check}
 use Rattle.octets.proofs.Laws.{either, get_d_byte}
+use Rattle.sections.specs.declared.Refusal.{Refusal}
 use Rattle.sections.specs.declared.Refusal.TheVariants.{BadLength, OtherProtocol, NumberAboveLast, RunsOver}
 use Rattle.sections.specs.declared.Standing.{Standing}
 use Rattle.sections.specs.declared.Standing.TheVariants.{InForce}
-use Rattle.sections.specs.declared.Standing.TheVariants.{NotOurs as Foreign, NotYet as Early, Refused as Faulty}
-use Rattle.sections.specs.declared.Walk.{Walk}
-use Rattle.sections.specs.declared.Walk.TheVariants.{To, Cut}
-use Rattle.sections.specs.Walks.{place_of, loops}
-use Rattle.sections.specs.Reading.{is_ours, protocol_in, version_in, current_in, number_in, last_in, has_length, loops_end, loops_standing, standing, is_in_force}
-use Rattle.sections.proofs.Names.{in_force_passes}
+use Rattle.sections.specs.declared.Standing.TheVariants.{NotOurs as Foreign, NotYet as Early}
+use Rattle.sections.specs.Walks.{Walk, place_of, loops}
+use Rattle.sections.specs.Reading.{offset_of, is_ours, protocol_in, version_in, current_in, number_in, last_in, has_length, loops_end, loops_standing, standing, is_in_force}
+use Rattle.sections.proofs.Laws.{Cuts}
+use Rattle.sections.proofs.Names.{loops_cuts, in_force_passes}
 use Rattle.sections.proofs.Steps.{length-short}
 use Rattle.guides.specs.declared.Gathering.{Gathering}
 use Rattle.guides.specs.declared.Answer.{Answer}
-use Rattle.guides.specs.declared.Answer.TheVariants.{Refused, Noted, Repeat}
+use Rattle.guides.specs.declared.Answer.TheVariants.{Noted, Repeat}
+use Rattle.guides.specs.declared.Told.{Told}
 use Rattle.guides.specs.declared.Values.{Values}
-use Rattle.guides.specs.Gathering.{is_noted, noting, empty_of, guide_values, Result, begun_as, read_as, result_by, told, SectionSays}
+use Rattle.guides.specs.Gathering.{is_noted, noting, empty_of, guide_values, begun_as, read_as, result_by, told, SectionSays}
 use Rattle.guides.proofs.Counts.{missing_most}
 use Rattle.guides.proofs.Words.{none_noted, noted_self}
 use Rattle.guides.proofs.Laws.{begun_either, begun_same, begun_other, begun_is, read_to, read_begun, read-repeat, read_noted}
@@ -33,33 +35,33 @@ use Rattle.guides.proofs.Laws.{begun_either, begun_same, begun_other, begun_is, 
 -- ---- by what the section is
 
 module _ (g : Gathering) (xs : List ℕ) where
-  pub left_as_found : (standing xs ≡ InForce → ⊥) → (told g xs).gathering ≡ g
+  pub left_as_found : (standing xs ≡ Ok InForce → ⊥) → (told g xs).gathering ≡ g
   unfolding told
   left_as_found out = go (standing xs) out
     where
-      go : (s : Standing) → (s ≡ InForce → ⊥) → (result_by s g xs).gathering ≡ g
-      go Foreign out = refl
-      go Early out = refl
-      go (Faulty f) out = refl
-      go InForce out = absurd (out refl)
+      go : (s : Result Standing Refusal) → (s ≡ Ok InForce → ⊥) → (result_by s g xs).gathering ≡ g
+      go (Ok Foreign) out = refl
+      go (Ok Early) out = refl
+      go (Err f) out = refl
+      go (Ok InForce) out = absurd (out refl)
 
-  pub read_in_force : standing xs ≡ InForce → told g xs ≡ read_as g (version_in xs) (number_in xs) (last_in xs)
+  pub read_in_force : standing xs ≡ Ok InForce → told g xs ≡ read_as g (version_in xs) (number_in xs) (last_in xs)
   unfolding told
-  read_in_force e = ap (λ (s : Standing). result_by s g xs) e
+  read_in_force e = ap (λ (s : Result Standing Refusal). result_by s g xs) e
 
   -- read to what the gathering begins with
-  in_force_to : standing xs ≡ InForce → told g xs ≡ read_to (begun_as g (version_in xs) (last_in xs)) (number_in xs)
+  in_force_to : standing xs ≡ Ok InForce → told g xs ≡ read_to (begun_as g (version_in xs) (last_in xs)) (number_in xs)
   in_force_to e = read_in_force e ∙ read_begun g (version_in xs) (number_in xs) (last_in xs) refl
 
   -- a repeat leaves the gathering as found: one that is emptied holds no number
-  pub repeat_as_found : standing xs ≡ InForce → is_noted (begun_as g (version_in xs) (last_in xs)).noted (number_in xs) ≡ true → (told g xs).gathering ≡ g
+  pub repeat_as_found : standing xs ≡ Ok InForce → is_noted (begun_as g (version_in xs) (last_in xs)).noted (number_in xs) ≡ true → (told g xs).gathering ≡ g
   repeat_as_found e t =
-      ap (λ (r : Result). r.gathering) (in_force_to e ∙ read-repeat (begun_as g (version_in xs) (last_in xs)) (number_in xs) t)
+      ap (λ (r : Told). r.gathering) (in_force_to e ∙ read-repeat (begun_as g (version_in xs) (last_in xs)) (number_in xs) t)
       ∙ begun_either g (version_in xs) (last_in xs) (λ b. is_noted b.noted (number_in xs) ≡ true → b ≡ g) (λ v l u. refl)
       (λ u. absurd (true≢false (sym u ∙ none_noted 4 (number_in xs)))) t
 
 -- another version or last number starts anew
-pub starts_anew : (g : Gathering) (xs : List ℕ) → (g.version ≡ version_in xs → g.last ≡ last_in xs → ⊥) → standing xs ≡ InForce → told g xs ≡ told (empty_of (version_in xs) (last_in xs)) xs
+pub starts_anew : (g : Gathering) (xs : List ℕ) → (g.version ≡ version_in xs → g.last ≡ last_in xs → ⊥) → standing xs ≡ Ok InForce → told g xs ≡ told (empty_of (version_in xs) (last_in xs)) xs
 starts_anew g xs other e =
     let anew : Gathering = empty_of (version_in xs) (last_in xs) in
     in_force_to g xs e
@@ -67,7 +69,7 @@ starts_anew g xs other e =
     ∙ sym (in_force_to anew xs e)
 
 -- a section has one result
-pub one_result : (g : Gathering) (xs : List ℕ) {a b : Answer} {h k : Gathering} → SectionSays g xs a h → SectionSays g xs b k → (a ≡ b) × (h ≡ k)
+pub one_result : (g : Gathering) (xs : List ℕ) {a b : Result Answer Refusal} {h k : Gathering} → SectionSays g xs a h → SectionSays g xs b k → (a ≡ b) × (h ≡ k)
 one_result g xs s t = (s.answers ∙ sym t.answers, s.leaves ∙ sym t.leaves)
 
 -- ---- what follows from the checks, one after the other
@@ -82,21 +84,21 @@ by_checks xs length_bad foreign protocol early above rest =
     (check (eqb (current_in xs) 0) early
     (check (ltb (last_in xs) (number_in xs)) above rest)))))
 
-module _ {A : Type 0} (f : Standing → A) (xs : List ℕ) where
-  check-said : (broken : Bool) (answer rest : Standing) {said : A} → f rest ≡ said → f (check broken answer rest) ≡ check broken (f answer) said
+module _ {A : Type 0} (f : Result Standing Refusal → A) (xs : List ℕ) where
+  check-said : (broken : Bool) (answer rest : Result Standing Refusal) {said : A} → f rest ≡ said → f (check broken answer rest) ≡ check broken (f answer) said
   check-said true answer rest e = refl
   check-said false answer rest e = e
 
   -- the last check: something runs past the end, or some bytes are left over
-  loops-said : (over : A) → ((at : ℕ) → f (Faulty (RunsOver at)) ≡ over) → f (loops_standing xs) ≡ cond (is_in_force (loops_standing xs)) (f InForce) over
+  loops-said : (over : A) → ((at : ℕ) → f (Err (RunsOver at)) ≡ over) → f (loops_standing xs) ≡ cond (is_in_force (loops_standing xs)) (f (Ok InForce)) over
   unfolding loops_standing
-  loops-said over h = go (loops xs)
+  loops-said over h = go (loops xs) (loops_cuts xs)
     where
-      go : (w : Walk) → f (loops_end w xs) ≡ cond (is_in_force (loops_end w xs)) (f InForce) over
-      go (To at) = either (ltb at (length xs)) (λ t. simp t (h at)) (λ t. simp t refl)
-      go (Cut at) = h at
+      go : (w : Walk) → Cuts w → f (loops_end w xs) ≡ cond (is_in_force (loops_end w xs)) (f (Ok InForce)) over
+      go (Ok at) c = either (ltb at (length xs)) (λ t. simp t (h at)) (λ t. simp t refl)
+      go (Err e) c = ap (λ (r : Refusal). f (Err r)) c ∙ h (offset_of e)
 
-  standing-said : {rest : A} → f (loops_standing xs) ≡ rest → f (standing xs) ≡ by_checks xs (f (Faulty BadLength)) (f Foreign) (f (Faulty OtherProtocol)) (f Early) (f (Faulty NumberAboveLast)) rest
+  standing-said : {rest : A} → f (loops_standing xs) ≡ rest → f (standing xs) ≡ by_checks xs (f (Err BadLength)) (f (Ok Foreign)) (f (Err OtherProtocol)) (f (Ok Early)) (f (Err NumberAboveLast)) rest
   unfolding standing
   standing-said e =
       check-said (eqb (length xs) 0) _ _
@@ -129,17 +131,17 @@ unless_then false false e = e
 
 module _ (g : Gathering) (xs : List ℕ) where
   -- a part of the answer that is the same, noted or a repeat
-  read_says : {A : Type 0} (f : Values → A) (said : A) → ((missing : ℕ) → f (guide_values (Noted missing)) ≡ said) → ((missing : ℕ) → f (guide_values (Repeat missing)) ≡ said) → (version number last : ℕ) → f (guide_values (read_as g version number last).answer) ≡ said
+  read_says : {A : Type 0} (f : Values → A) (said : A) → ((missing : ℕ) → f (guide_values (Ok (Noted missing))) ≡ said) → ((missing : ℕ) → f (guide_values (Ok (Repeat missing))) ≡ said) → (version number last : ℕ) → f (guide_values (read_as g version number last).answer) ≡ said
   read_says {A} f said noted repeat version number last =
       let b : Gathering = begun_as g version last in
-      let says : Result → A = λ r. f (guide_values r.answer) in
+      let says : Told → A = λ r. f (guide_values r.answer) in
       ap says (read_begun g version number last refl)
       ∙ either (is_noted b.noted number) (λ t. ap says (read-repeat b number t) ∙ repeat _) (λ t. ap says (read_noted b number t) ∙ noted _)
 
   pub number_exactly : (guide_values (told g xs).answer).number ≡ check (eqb (length xs) 0) 20 (check (not (is_ours (get_or xs 0 0))) 0 (check (not (has_length xs)) 20 (check (not (eqb (protocol_in xs) 0)) 21 (check (eqb (current_in xs) 0) 0 (check (ltb (last_in xs) (number_in xs)) 22 (cond (is_in_force (loops_standing xs)) 0 23))))))
   unfolding told
   number_exactly =
-      let f : Standing → ℕ = λ s. (guide_values (result_by s g xs).answer).number in
+      let f : Result Standing Refusal → ℕ = λ s. (guide_values (result_by s g xs).answer).number in
       standing-said f xs
       (loops-said f xs 23 (λ at. refl)
       ∙ ap (λ (k : ℕ). cond (is_in_force (loops_standing xs)) k 23) (read_says (λ v. v.number) 0 (λ m. refl) (λ m. refl) (version_in xs) (number_in xs) (last_in xs)))
@@ -149,18 +151,18 @@ module _ (g : Gathering) (xs : List ℕ) where
   unfolding told loops_standing
   offset_exactly = standing-said at xs (go (loops xs))
     where
-      at : Standing → ℕ
+      at : Result Standing Refusal → ℕ
       at s = (guide_values (result_by s g xs).answer).at
 
-      read : at InForce ≡ 0
+      read : at (Ok InForce) ≡ 0
       read = read_says (λ v. v.at) 0 (λ m. refl) (λ m. refl) (version_in xs) (number_in xs) (last_in xs)
 
       go : (w : Walk) → at (loops_end w xs) ≡ cond (is_in_force (loops_end w xs)) 0 (place_of w)
-      go (To end) = either (ltb end (length xs)) (λ t. simp t refl) (λ t. simp t read)
-      go (Cut place) = refl
+      go (Ok end) = either (ltb end (length xs)) (λ t. simp t refl) (λ t. simp t read)
+      go (Err e) = refl
 
   -- what only another check's answer says
-  last_silent : (f : Values → Bool) → ((at : ℕ) → f (guide_values (Refused (RunsOver at))) ≡ false) → ((missing : ℕ) → f (guide_values (Noted missing)) ≡ false) → ((missing : ℕ) → f (guide_values (Repeat missing)) ≡ false) → f (guide_values (result_by (loops_standing xs) g xs).answer) ≡ false
+  last_silent : (f : Values → Bool) → ((at : ℕ) → f (guide_values (Err (RunsOver at))) ≡ false) → ((missing : ℕ) → f (guide_values (Ok (Noted missing))) ≡ false) → ((missing : ℕ) → f (guide_values (Ok (Repeat missing))) ≡ false) → f (guide_values (result_by (loops_standing xs) g xs).answer) ≡ false
   last_silent f over noted repeat =
       loops-said (λ s. f (guide_values (result_by s g xs).answer)) xs false over
       ∙ either (is_in_force (loops_standing xs)) (λ t. simp t (read_says f false noted repeat (version_in xs) (number_in xs) (last_in xs))) (λ t. simp t refl)
@@ -200,11 +202,11 @@ pub most_missing : (g : Gathering) (xs : List ℕ) → length g.noted ≡ 4 → 
 unfolding told
 most_missing g xs four h = go (standing xs) refl
   where
-    go : (s : Standing) → standing xs ≡ s → (guide_values (result_by s g xs).answer).missing ≤ 255
-    go Foreign e = lit≤ tt
-    go Early e = lit≤ tt
-    go (Faulty f) e = lit≤ tt
-    go InForce e =
+    go : (s : Result Standing Refusal) → standing xs ≡ s → (guide_values (result_by s g xs).answer).missing ≤ 255
+    go (Ok Foreign) e = lit≤ tt
+    go (Ok Early) e = lit≤ tt
+    go (Err f) e = lit≤ tt
+    go (Ok InForce) e =
         let b : Gathering = begun_as g (version_in xs) (last_in xs) in
         let ended = (begun_is g (version_in xs) (last_in xs) refl).1 in
         let words : length b.noted ≡ 4 = begun_either g (version_in xs) (last_in xs) (λ c. length c.noted ≡ 4) (λ v l. four) refl in

@@ -6,6 +6,7 @@ use Prim.Native.Nat.{ℕ, ◌≤◌}
 use native.Mathlib.Omega.{arith}
 use lib.Dec.{eqb}
 use lib.ListN.{length, length-set}
+use Rattle.std.specs.Prelude.{Ok}
 use Rattle.octets.specs.Bits.{Bytes}
 use Rattle.octets.specs.Checks.{among}
 use Rattle.octets.proofs.Laws.{either, test_again, each_map, bytes-bytes_of}
@@ -14,7 +15,8 @@ use Rattle.sections.specs.Reading.{last_in}
 use Rattle.sections.proofs.Complete.{carried-accepted}
 use Rattle.guides.specs.declared.Gathering.{Gathering}
 use Rattle.guides.specs.declared.Answer.TheVariants.{Noted, Repeat}
-use Rattle.guides.specs.Gathering.{is_noted, missing_of, empty_of, empty, missing_in, Result, begun_as, noted_as, read_as, told}
+use Rattle.guides.specs.declared.Told.{Told}
+use Rattle.guides.specs.Gathering.{is_noted, missing_of, empty_of, empty, missing_in, begun_as, noted_as, read_as, told}
 use Rattle.guides.specs.Tables.{answers_to, left_by, Delivery, bytes_of, numbers_of, Begins, due, dues_from, All, Completes}
 use Rattle.guides.proofs.Counts.{missing_same}
 use Rattle.guides.proofs.Words.{none_noted, noted_after}
@@ -77,7 +79,7 @@ module _ (version last : ℕ) where
         }
 
   -- a result that answers a number as is due, and leaves it among those that came
-  abbrev AsDue : List ℕ → ℕ → Result → Type 0
+  abbrev AsDue : List ℕ → ℕ → Told → Type 0
   AsDue came n u = (u.answer ≡ due last came n) × Stands u.gathering (n ∷ came)
 
   read-due : (g : Gathering) (came : List ℕ) → Stands g came → (n : ℕ) → n ≤ last → last ≤ 255 → AsDue came n (read_to g n)
@@ -85,11 +87,11 @@ module _ (version last : ℕ) where
       either (is_noted g.noted n)
       (λ t.
       let c : among came n ≡ true = sym (s.noted n order) ∙ t in
-      subst (AsDue came n) (sym (read-repeat g n t)) (ap Repeat (missing_due g came s) ∙ sym (simp c refl), repeat-stands g came s n c))
+      subst (AsDue came n) (sym (read-repeat g n t)) (ap (λ (k : ℕ). Ok (Repeat k)) (missing_due g came s) ∙ sym (simp c refl), repeat-stands g came s n c))
       (λ t.
       let c : among came n ≡ false = sym (s.noted n order) ∙ t in
       let after = noted_stands g came s n (omega arith) t in
-      subst (AsDue came n) (sym (read_noted g n t)) (ap Noted (missing_due (noted_as g n) (n ∷ came) after) ∙ sym (simp c refl), after))
+      subst (AsDue came n) (sym (read_noted g n t)) (ap (λ (k : ℕ). Ok (Noted k)) (missing_due (noted_as g n) (n ∷ came) after) ∙ sym (simp c refl), after))
 
 -- ---- a section that is laid out is read
 

@@ -2,7 +2,7 @@
 use mathlib.Core.Path.{◌≡◌, refl, sym, ap, ap₂, ◌∙◌}
 use mathlib.Core.Bool.{Bool, true, false, cond, ◌||◌}
 use mathlib.Core.List.{List}
-use Prim.Native.Nat.{ℕ, zero, suc, ◌+◌, ◌-◌, ◌/◌, ◌%◌, ◌^◌, ◌≤◌, ◌<◌, min}
+use Prim.Native.Nat.{ℕ, zero, suc, ◌+◌, ◌-◌, ◌*◌, ◌/◌, ◌%◌, ◌^◌, ◌≤◌, ◌<◌, min}
 use native.Mathlib.Nat.{add-zero, add-suc, add_assoc, add_comm, mod-lt, mod-one, mod-eq_of_lt, lt_of_lt_of_le}
 use native.Mathlib.Numerals.{one-add}
 use native.Mathlib.Omega.{arith}
@@ -77,43 +77,54 @@ module _ (words : List ℕ) where
   abbrev noted : ℕ → ℕ
   noted = count_below (is_noted words)
 
-  -- those of a word
-  noted_bit : (low r : ℕ) → low % 64 ≡ 0 → r < 64 → is_noted words (low + r) ≡ holds (get_or words (low / 64) 0) r
-  noted_bit low r e l =
-      let place : (low + r) / 64 ≡ low / 64 = omega arith in
-      let bit : (low + r) % 64 ≡ r = omega arith in
-      ap₂ (λ (k i : ℕ). holds (get_or words k 0) i) place bit
+  -- those of the i-th word
+  noted_bit : (i r : ℕ) → r < 64 → is_noted words (64 * i + r) ≡ holds (get_or words i 0) r
+  noted_bit i r l =
+      let place : (64 * i + r) / 64 ≡ i = omega arith in
+      let bit : (64 * i + r) % 64 ≡ r = omega arith in
+      ap₂ (λ (k b : ℕ). holds (get_or words k 0) b) place bit
 
-  count_word : (low r : ℕ) → low % 64 ≡ 0 → r ≤ 64 → noted (low + r) ≡ noted low + ones (get_or words (low / 64) 0 % 2 ^ r)
+  count_word : (i r : ℕ) → r ≤ 64 → noted (64 * i + r) ≡ noted (64 * i) + ones (get_or words i 0 % 2 ^ r)
   unfolding count_below ones
-  count_word low zero e l =
-      ap noted (add-zero low) ∙ sym (ap (λ (k : ℕ). noted low + ones k) (mod-one (get_or words (low / 64) 0)) ∙ add-zero (noted low))
-  count_word low (suc r) e l =
-      let w : ℕ = get_or words (low / 64) 0 in
-      ap noted (add-suc low r)
-      ∙ ap₂ (λ (k : ℕ) (t : Bool). k + cond t 1 0) (count_word low r e (omega arith)) (noted_bit low r e (omega arith))
-      ∙ add_assoc (noted low) (ones (w % 2 ^ r)) (cond (holds w r) 1 0)
-      ∙ ap (λ (k : ℕ). noted low + k) (sym (ones_more w r))
+  count_word i zero l =
+      ap noted (add-zero (64 * i)) ∙ sym (ap (λ (k : ℕ). noted (64 * i) + ones k) (mod-one (get_or words i 0)) ∙ add-zero (noted (64 * i)))
+  count_word i (suc r) l =
+      let w : ℕ = get_or words i 0 in
+      ap noted (add-suc (64 * i) r)
+      ∙ ap₂ (λ (k : ℕ) (t : Bool). k + cond t 1 0) (count_word i r (omega arith)) (noted_bit i r (omega arith))
+      ∙ add_assoc (noted (64 * i)) (ones (w % 2 ^ r)) (cond (holds w r) 1 0)
+      ∙ ap (λ (k : ℕ). noted (64 * i) + k) (sym (ones_more w r))
 
   -- one word more, as far as the top
-  module _ (top low : ℕ) (starts : low % 64 ≡ 0) (below : low < top) (small : get_or words (low / 64) 0 < 2 ^ 64) where
+  module _ (top i : ℕ) (small : get_or words i 0 < 2 ^ 64) where
     abbrev word : ℕ
-    word = get_or words (low / 64) 0
+    word = get_or words i 0
 
-    room : ones (word % 2 ^ (top - low)) ≡ ones (word % 2 ^ min 64 (top - low))
+    room : ones (word % 2 ^ (top - 64 * i)) ≡ ones (word % 2 ^ min 64 (top - 64 * i))
     room =
-        either (leb 64 (top - low))
+        either (leb 64 (top - 64 * i))
         (λ t.
-        let l = leb-true 64 (top - low) t in
-        let m : min 64 (top - low) ≡ 64 = omega arith in
-        ap ones (all_bits word (top - low) small l ∙ sym (ap (λ (k : ℕ). word % 2 ^ k) m ∙ mod-eq_of_lt small)))
+        let l = leb-true 64 (top - 64 * i) t in
+        let m : min 64 (top - 64 * i) ≡ 64 = omega arith in
+        ap ones (all_bits word (top - 64 * i) small l ∙ sym (ap (λ (k : ℕ). word % 2 ^ k) m ∙ mod-eq_of_lt small)))
         (λ t.
-        let l = leb-false 64 (top - low) t in
-        let m : min 64 (top - low) ≡ top - low = omega arith in
+        let l = leb-false 64 (top - 64 * i) t in
+        let m : min 64 (top - 64 * i) ≡ top - 64 * i = omega arith in
         ap (λ (k : ℕ). ones (word % 2 ^ k)) (sym m))
 
-    pub count_next : count_below (is_noted words) (min low top) + ones (get_or words (low / 64) 0 % 2 ^ (top - low)) ≡ count_below (is_noted words) (min (low + 64) top)
+    pub count_next : count_below (is_noted words) (min (64 * i) top) + ones (get_or words i 0 % 2 ^ (top - 64 * i)) ≡ count_below (is_noted words) (min (64 * (i + 1)) top)
+    unfolding ones
     count_next =
-        let here : min low top ≡ low = omega arith in
-        let next : low + min 64 (top - low) ≡ min (low + 64) top = omega arith in
-        ap₂ (λ (k m : ℕ). noted k + m) here room ∙ sym (count_word low (min 64 (top - low)) starts (omega arith)) ∙ ap noted next
+        either (leb (64 * i) top)
+        (λ t.
+        let l = leb-true (64 * i) top t in
+        let here : min (64 * i) top ≡ 64 * i = omega arith in
+        let next : 64 * i + min 64 (top - 64 * i) ≡ min (64 * (i + 1)) top = omega arith in
+        ap₂ (λ (k m : ℕ). noted k + m) here room ∙ sym (count_word i (min 64 (top - 64 * i)) (omega arith)) ∙ ap noted next)
+        (λ t.
+        let l = leb-false (64 * i) top t in
+        let same : min (64 * i) top ≡ min (64 * (i + 1)) top = omega arith in
+        let none : top - 64 * i ≡ 0 = omega arith in
+        ap₂ (λ (k r : ℕ). noted k + ones (word % 2 ^ r)) same none
+        ∙ ap (λ (k : ℕ). noted (min (64 * (i + 1)) top) + ones k) (mod-one word)
+        ∙ add-zero (noted (min (64 * (i + 1)) top)))

@@ -1,13 +1,15 @@
 -- Document 02, the guide: the gathering, one section, and what that leaves.
-use Rattle.std.specs.Prelude.{ℕ, zero, suc, ◌+◌, ◌-◌, ◌/◌, ◌%◌, ◌≡◌, Bool, true, false, cond, ◌&&◌, List, eqb, get_or, set, replicate}
+use Rattle.std.specs.Prelude.{ℕ, zero, suc, ◌+◌, ◌-◌, ◌/◌, ◌%◌, ◌≡◌, Bool, true, false, cond, ◌&&◌, List, eqb, get_or, set, replicate, Result, Ok, Err}
 use Rattle.octets.specs.Sets.{holds, including}
+use Rattle.sections.specs.declared.Refusal.{Refusal}
 use Rattle.sections.specs.declared.Standing.{Standing}
 use Rattle.sections.specs.declared.Standing.TheVariants.{InForce}
-use Rattle.sections.specs.declared.Standing.TheVariants.{NotOurs as Foreign, NotYet as Early, Refused as Faulty}
+use Rattle.sections.specs.declared.Standing.TheVariants.{NotOurs as Foreign, NotYet as Early}
 use Rattle.sections.specs.Reading.{number_of, offset_of, version_in, number_in, last_in, standing}
 use Rattle.guides.specs.declared.Gathering.{Gathering}
 use Rattle.guides.specs.declared.Answer.{Answer}
-use Rattle.guides.specs.declared.Answer.TheVariants.{NotOurs, NotYet, Refused, Noted, Repeat}
+use Rattle.guides.specs.declared.Answer.TheVariants.{NotOurs, NotYet, Noted, Repeat}
+use Rattle.guides.specs.declared.Told.{Told}
 use Rattle.guides.specs.declared.Values.{Values}
 
 -- ---- the numbers noted, a set over a byte's width in four words of 64 bits
@@ -51,20 +53,16 @@ abbrev pub values : ℕ → Bool → Bool → Bool → ℕ → ℕ → Values
 values number foreign early repeat missing at =
     record { number = number; foreign = foreign; early = early; repeat = repeat; missing = missing; at = at }
 
-abbrev pub guide_values : Answer → Values
-guide_values NotOurs = values 0 true false false 0 0
-guide_values NotYet = values 0 false true false 0 0
-guide_values (Refused f) = values (number_of f) false false false 0 (offset_of f)
-guide_values (Noted missing) = values 0 false false false missing 0
-guide_values (Repeat missing) = values 0 false false true missing 0
+abbrev pub guide_values : Result Answer Refusal → Values
+guide_values (Ok NotOurs) = values 0 true false false 0 0
+guide_values (Ok NotYet) = values 0 false true false 0 0
+guide_values (Err f) = values (number_of f) false false false 0 (offset_of f)
+guide_values (Ok (Noted missing)) = values 0 false false false missing 0
+guide_values (Ok (Repeat missing)) = values 0 false false true missing 0
 
 -- ---- the call, on a gathering and a section xs: the answer, and the gathering afterwards
 
-pub record Result : Type 0 where
-  pub answer : Answer
-  pub gathering : Gathering
-
-abbrev pub result : Answer → Gathering → Result
+abbrev pub result : Result Answer Refusal → Gathering → Told
 result answer g = record { answer = answer; gathering = g }
 
 -- of this version and last number; any other is emptied first
@@ -76,26 +74,26 @@ abbrev pub noted_as : Gathering → ℕ → Gathering
 noted_as g number = gathering g.version g.last (noting g.noted number)
 
 -- a section in force, of this version, number and last number: a repeat, whatever its bytes, or noted
-unfoldable pub read_as : Gathering → ℕ → ℕ → ℕ → Result
+unfoldable pub read_as : Gathering → ℕ → ℕ → ℕ → Told
 read_as g version number last =
     let b = begun_as g version last in
-    cond (is_noted b.noted number) (result (Repeat (missing_in b)) b)
-    (result (Noted (missing_in (noted_as b number))) (noted_as b number))
+    cond (is_noted b.noted number) (result (Ok (Repeat (missing_in b))) b)
+    (result (Ok (Noted (missing_in (noted_as b number)))) (noted_as b number))
 
 -- by what the section xs is; all but one in force leave the gathering as found
-abbrev pub result_by : Standing → Gathering → List ℕ → Result
-result_by Foreign g xs = result NotOurs g
-result_by Early g xs = result NotYet g
-result_by (Faulty f) g xs = result (Refused f) g
-result_by InForce g xs = read_as g (version_in xs) (number_in xs) (last_in xs)
+abbrev pub result_by : Result Standing Refusal → Gathering → List ℕ → Told
+result_by (Ok Foreign) g xs = result (Ok NotOurs) g
+result_by (Ok Early) g xs = result (Ok NotYet) g
+result_by (Err f) g xs = result (Err f) g
+result_by (Ok InForce) g xs = read_as g (version_in xs) (number_in xs) (last_in xs)
 
-unfoldable pub told : Gathering → List ℕ → Result
+unfoldable pub told : Gathering → List ℕ → Told
 told g xs = result_by (standing xs) g xs
 
 -- what the call promises: its answer, and the gathering afterwards, are those of a result
-pub record TellsSo (u : Result) (answer : Answer) (after : Gathering) : Type 0 where
+pub record TellsSo (u : Told) (answer : Result Answer Refusal) (after : Gathering) : Type 0 where
   pub answers : answer ≡ u.answer
   pub leaves : after ≡ u.gathering
 
-abbrev pub SectionSays : Gathering → List ℕ → Answer → Gathering → Type 0
+abbrev pub SectionSays : Gathering → List ℕ → Result Answer Refusal → Gathering → Type 0
 SectionSays g xs = TellsSo (told g xs)

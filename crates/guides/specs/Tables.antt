@@ -1,7 +1,8 @@
 -- Document 02, the guide: the sections of a table, each at least once and in any order, and what must be answered.
-use Rattle.std.specs.Prelude.{ℕ, ◌≤◌, ◌<◌, ◌≡◌, true, false, cond, List, [], ◌∷◌, ◌++◌, map, length}
+use Rattle.std.specs.Prelude.{ℕ, ◌≤◌, ◌<◌, ◌≡◌, true, false, cond, List, [], ◌∷◌, ◌++◌, map, length, Result, Ok}
 use Rattle.octets.specs.Checks.{among}
 use Rattle.octets.specs.Each.{Each}
+use Rattle.sections.specs.declared.Refusal.{Refusal}
 use Rattle.sections.specs.Layout.{Carries}
 use Rattle.guides.specs.declared.Gathering.{Gathering}
 use Rattle.guides.specs.declared.Answer.{Answer}
@@ -10,7 +11,7 @@ use Rattle.guides.specs.Gathering.{missing_of, empty_of, begun_as, guide_values,
 
 -- ---- sections given one after the other: the answers, and the gathering afterwards
 
-unfoldable pub answers_to : Gathering → List (List ℕ) → List Answer
+unfoldable pub answers_to : Gathering → List (List ℕ) → List (Result Answer Refusal)
 answers_to g [] = []
 answers_to g (xs ∷ more) = (told g xs).answer ∷ answers_to (told g xs).gathering more
 
@@ -38,10 +39,10 @@ Begins g version last = begun_as g version last ≡ empty_of version last
 
 -- ---- what is due to the number n when others have come: a repeat where it was among them, and how many numbers up to the last have not come, with it
 
-abbrev pub due : ℕ → List ℕ → ℕ → Answer
-due last came n = cond (among came n) (Repeat (missing_of (among came) last)) (Noted (missing_of (among (n ∷ came)) last))
+abbrev pub due : ℕ → List ℕ → ℕ → Result Answer Refusal
+due last came n = cond (among came n) (Ok (Repeat (missing_of (among came) last))) (Ok (Noted (missing_of (among (n ∷ came)) last)))
 
-unfoldable pub dues_from : ℕ → List ℕ → List ℕ → List Answer
+unfoldable pub dues_from : ℕ → List ℕ → List ℕ → List (Result Answer Refusal)
 dues_from last came [] = []
 dues_from last came (n ∷ more) = due last came n ∷ dues_from last (n ∷ came) more
 
@@ -50,16 +51,16 @@ dues_from last came (n ∷ more) = due last came n ∷ dues_from last (n ∷ cam
 abbrev pub All : ℕ → List ℕ → Type 0
 All last came = (n : ℕ) → n ≤ last → among came n ≡ true
 
-pub record Completes (last : ℕ) (numbers : List ℕ) (answers : List Answer) : Type 0 where
+pub record Completes (last : ℕ) (numbers : List ℕ) (answers : List (Result Answer Refusal)) : Type 0 where
   pub before : List ℕ
   pub number : ℕ
   pub after : List ℕ
-  pub waiting : List Answer
-  pub repeats : List Answer
+  pub waiting : List (Result Answer Refusal)
+  pub repeats : List (Result Answer Refusal)
   pub order : numbers ≡ before ++ number ∷ after
   pub new : among before number ≡ false
   pub all : All last (before ++ number ∷ [])
-  pub answered : answers ≡ waiting ++ Noted 0 ∷ repeats
+  pub answered : answers ≡ waiting ++ Ok (Noted 0) ∷ repeats
   pub place : length waiting ≡ length before
   pub short : Each (λ a. 0 < (guide_values a).missing) waiting
-  pub done : Each (λ a. a ≡ Repeat 0) repeats
+  pub done : Each (λ a. a ≡ Ok (Repeat 0)) repeats

@@ -8,6 +8,7 @@ use native.Mathlib.Omega.{arith}
 use borrow.Author.Tests.{not-false}
 use lib.Dec.{ltb, eqb}
 use lib.ListN.{length, get_or, drop, length-append}
+use Rattle.std.specs.Prelude.{Result, Ok, Err}
 use Rattle.octets.specs.Bits.{Bytes}
 use Rattle.octets.specs.Checks.{check}
 use Rattle.octets.proofs.Laws.{either, bytes_take, bytes_drop, get_d_byte}
@@ -20,13 +21,12 @@ use Rattle.records.proofs.Entries.{Within}
 use Rattle.records.proofs.Counted.{whole_marked, counted_there}
 use Rattle.records.proofs.Transcripts.{none_size, filled_cases, cost-text}
 use Rattle.records.proofs.Filling.{Goes, goes_start, goes_end, full_stops, turned-inside, turned_less, turned-length, turned_left, turned_goes, turned_stops}
+use Rattle.sections.specs.declared.Refusal.{Refusal}
 use Rattle.sections.specs.declared.Refusal.TheVariants.{BadLength, OtherProtocol, NumberAboveLast, RunsOver}
 use Rattle.sections.specs.declared.Standing.{Standing}
-use Rattle.sections.specs.declared.Standing.TheVariants.{NotOurs, NotYet, InForce, Refused}
-use Rattle.sections.specs.declared.Walk.{Walk}
-use Rattle.sections.specs.declared.Walk.TheVariants.{To, Cut}
+use Rattle.sections.specs.declared.Standing.TheVariants.{NotOurs, NotYet, InForce}
 use Rattle.sections.specs.Sizes.{longest_section}
-use Rattle.sections.specs.Walks.{place_of, loops}
+use Rattle.sections.specs.Walks.{Walk, place_of, loops}
 use Rattle.sections.specs.Reading.{offset_of, is_ours, protocol_in, version_in, current_in, number_in, last_in, has_length, loops_end, loops_standing, standing}
 use Rattle.sections.proofs.Steps.{length_right}
 use Rattle.sections.proofs.Names.{loops-inside}
@@ -39,19 +39,19 @@ use Rattle.guiding.specs.Guiding.{lines_of}
 
 -- ---- the offset of a refusal is inside of a section
 
-abbrev Near : Standing → Type 0
-Near (Refused f) = offset_of f ≤ longest_section
-Near NotOurs = Unit {0}
-Near NotYet = Unit {0}
-Near InForce = Unit {0}
+abbrev Near : Result Standing Refusal → Type 0
+Near (Err f) = offset_of f ≤ longest_section
+Near (Ok NotOurs) = Unit {0}
+Near (Ok NotYet) = Unit {0}
+Near (Ok InForce) = Unit {0}
 
-check_near : (broken : Bool) (answer rest : Standing) → Near answer → (broken ≡ false → Near rest) → Near (check broken answer rest)
+check_near : (broken : Bool) (answer rest : Result Standing Refusal) → Near answer → (broken ≡ false → Near rest) → Near (check broken answer rest)
 check_near true answer rest a b = a
 check_near false answer rest a b = b refl
 
 loops_near : (xs : List ℕ) (w : Walk) → place_of w ≤ longest_section → Near (loops_end w xs)
-loops_near xs (To at) h = check_near (ltb at (length xs)) (Refused (RunsOver at)) InForce h (λ e. tt)
-loops_near xs (Cut at) h = h
+loops_near xs (Ok at) h = check_near (ltb at (length xs)) (Err (RunsOver at)) (Ok InForce) h (λ e. tt)
+loops_near xs (Err f) h = h
 
 walk_near : (xs : List ℕ) → has_length xs ≡ true → place_of (loops xs) ≤ longest_section
 walk_near xs e = let l = length_right xs e in omega (arith, l.1, (loops-inside xs l.0).short)
@@ -59,17 +59,17 @@ walk_near xs e = let l = length_right xs e in omega (arith, l.1, (loops-inside x
 standing_near : (xs : List ℕ) → Near (standing xs)
 unfolding standing loops_standing
 standing_near xs =
-    check_near (eqb (length xs) 0) (Refused BadLength) _ (omega arith)
+    check_near (eqb (length xs) 0) (Err BadLength) _ (omega arith)
     (λ a.
-    check_near (not (is_ours (get_or xs 0 0))) NotOurs _ tt
+    check_near (not (is_ours (get_or xs 0 0))) (Ok NotOurs) _ tt
     (λ b.
-    check_near (not (has_length xs)) (Refused BadLength) _ (omega arith)
+    check_near (not (has_length xs)) (Err BadLength) _ (omega arith)
     (λ c.
-    check_near (not (eqb (protocol_in xs) 0)) (Refused OtherProtocol) _ (omega arith)
+    check_near (not (eqb (protocol_in xs) 0)) (Err OtherProtocol) _ (omega arith)
     (λ d.
-    check_near (eqb (current_in xs) 0) NotYet _ tt
+    check_near (eqb (current_in xs) 0) (Ok NotYet) _ tt
     (λ e.
-    check_near (ltb (last_in xs) (number_in xs)) (Refused NumberAboveLast) _ (omega arith)
+    check_near (ltb (last_in xs) (number_in xs)) (Err NumberAboveLast) _ (omega arith)
     (λ f. loops_near xs (loops xs) (walk_near xs (not-false (has_length xs) c))))))))
 
 -- ---- what is told of a section: its names are had, its numbers are small, and so its lines fit
@@ -79,11 +79,11 @@ module _ (g : Gathering) (xs : List ℕ) where
   unfolding told read_as
   names_had = go (standing xs) refl
     where
-      go : (s : Standing) → standing xs ≡ s → NamesHad (result_by s g xs).answer xs
-      go NotOurs e = tt
-      go NotYet e = tt
-      go (Refused f) e = tt
-      go InForce e = either (is_noted (begun_as g (version_in xs) (last_in xs)).noted (number_in xs)) (λ t. rw t tt) (λ t. rw t e)
+      go : (s : Result Standing Refusal) → standing xs ≡ s → NamesHad (result_by s g xs).answer xs
+      go (Ok NotOurs) e = tt
+      go (Ok NotYet) e = tt
+      go (Err f) e = tt
+      go (Ok InForce) e = either (is_noted (begun_as g (version_in xs) (last_in xs)).noted (number_in xs)) (λ t. rw t tt) (λ t. rw t e)
 
   told_small : Bytes xs → Small (told g xs).answer
   unfolding told read_as
@@ -92,11 +92,11 @@ module _ (g : Gathering) (xs : List ℕ) where
       last_is : (begun_as g (version_in xs) (last_in xs)).last ≡ last_in xs
       last_is = begun_either g (version_in xs) (last_in xs) (λ b. b.last ≡ last_in xs) (λ v l. l) refl
 
-      go : (s : Standing) → Near s → Small (result_by s g xs).answer
-      go NotOurs near = tt
-      go NotYet near = tt
-      go (Refused f) near = omega arith
-      go InForce near =
+      go : (s : Result Standing Refusal) → Near s → Small (result_by s g xs).answer
+      go (Ok NotOurs) near = tt
+      go (Ok NotYet) near = tt
+      go (Err f) near = omega arith
+      go (Ok InForce) near =
           either (is_noted (begun_as g (version_in xs) (last_in xs)).noted (number_in xs)) (λ t. rw t (omega (arith, last_is, get_d_byte xs 7 bytes)))
           (λ t. rw t (omega (arith, last_is, get_d_byte xs 7 bytes)))
 

@@ -1,14 +1,15 @@
 -- What is told to a program in C of the guide: an answer as one number, the gathering's numbers as one, and where a name stands.
-use Rattle.std.specs.Prelude.{ℕ, ◌+◌, ◌*◌, ◌/◌, ◌%◌, ◌≡◌, cond, List, length}
+use Rattle.std.specs.Prelude.{ℕ, ◌+◌, ◌*◌, ◌/◌, ◌%◌, ◌≡◌, cond, List, length, Result, Ok, Err}
+use Rattle.sections.specs.declared.Refusal.{Refusal}
 use Rattle.sections.specs.Reading.{name_in, name_place}
 use Rattle.guides.specs.declared.Gathering.{Gathering}
 use Rattle.guides.specs.declared.Answer.{Answer}
-use Rattle.guides.specs.declared.Answer.TheVariants.{NotOurs, NotYet, Refused, Noted, Repeat}
+use Rattle.guides.specs.declared.Answer.TheVariants.{NotOurs, NotYet, Noted, Repeat}
 use Rattle.guides.specs.Gathering.{gathering, guide_values, told}
 
 -- eight bits for the number, one each for a repeat, a section that is not ours, and one not yet in force, five that are 0; sixteen for how many are missing, and above
 -- them the offset
-abbrev pub packed_guide : Answer → ℕ
+abbrev pub packed_guide : Result Answer Refusal → ℕ
 packed_guide a =
     let v = guide_values a in
     v.number + cond v.repeat 0x100 0 + cond v.foreign 0x200 0 + cond v.early 0x400 0 + v.missing * 0x10000 + v.at * 0x100000000
@@ -21,12 +22,12 @@ abbrev pub packed_gathering : Gathering → ℕ
 packed_gathering g = g.version + g.last * 0x100
 
 -- where nothing changes, they stay as they were given
-abbrev pub guide_left : Answer → ℕ → Gathering → ℕ
-guide_left (Noted missing) before after = packed_gathering after
-guide_left (Repeat missing) before after = packed_gathering after
-guide_left NotOurs before after = before
-guide_left NotYet before after = before
-guide_left (Refused f) before after = before
+abbrev pub guide_left : Result Answer Refusal → ℕ → Gathering → ℕ
+guide_left (Ok (Noted missing)) before after = packed_gathering after
+guide_left (Ok (Repeat missing)) before after = packed_gathering after
+guide_left (Ok NotOurs) before after = before
+guide_left (Ok NotYet) before after = before
+guide_left (Err f) before after = before
 
 -- the n-th name of a section: sixteen bits for where it begins, 0 where there is none, and above them its length
 abbrev pub packed_name : List ℕ → ℕ → ℕ

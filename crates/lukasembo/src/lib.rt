@@ -22,7 +22,7 @@ ghost use Rattle.lukasembo.specs.Wraps.{packed_wrapped, writer_in, packed_writer
 
 use explains::{Explained, Field};
 use fields::Table;
-use guides::{Answer, Gathering};
+use guides::{Answer, Gathering, Told};
 use meaning::{Kind, Listed, Refusal};
 use slots::Slot;
 use tunnel::{Numbers, Unwrapped};
@@ -243,73 +243,28 @@ pub fn lukasembo_close_step(numbers: u64, since: u32, left: &[u8; 1400], output:
 
 // ---- the guide
 
-// The gathering, as the caller keeps it.
-fn unpack_gathering(packed: u64, noted: &[u64]) -> Gathering
-    requires { length noted.now ≡ 4 }
-    ensures { result ≡ gathering_in packed noted.now }
-{
-    Gathering {
-        version: (packed % 0x100) as u8,
-        last: (packed / 0x100 % 0x100) as u8,
-        noted: [noted[0], noted[1], noted[2], noted[3]],
-    }
-}
-
 // What the caller keeps after an answer: where nothing changes, what was given.
-fn left_gathering(answer: Answer, before: u64, after: Gathering) -> u64
+fn left_gathering(answer: Result<Answer, sections::Refusal>, before: u64, after: Gathering) -> u64
     ensures { result ≡ guide_left answer before after }
 {
-    let packed = after.version as u64 + after.last as u64 * 0x100;
     match answer {
-        Answer::NotOurs => before,
-        Answer::NotYet => before,
-        Answer::Refused(_) => before,
-        Answer::Noted { missing: _ } => packed,
-        Answer::Repeat { missing: _ } => packed,
+        Ok(Answer::Noted { .. } | Answer::Repeat { .. }) => {
+            after.version as u64 + after.last as u64 * 0x100
+        }
+        Ok(Answer::NotOurs | Answer::NotYet) | Err(_) => before,
     }
 }
 
 // The guide's answer as one number.
-fn pack_guide(answer: Answer) -> u64
+fn pack_guide(answer: Result<Answer, sections::Refusal>) -> u64
     ensures { result ≡ packed_guide answer }
 {
     match answer {
-        Answer::NotOurs => 0x200,
-        Answer::NotYet => 0x400,
-        Answer::Refused(refusal) => {
-            let number = sections::number_of(refusal);
-            let offset = sections::offset_of(refusal);
-            number as u64 + offset as u64 * 0x100000000
-        }
-        Answer::Noted { missing } => missing as u64 * 0x10000,
-        Answer::Repeat { missing } => 0x100 + missing as u64 * 0x10000,
-    }
-}
-
-// Puts the numbers noted where the caller keeps them.
-fn put_noted(after: [u64; 4], noted: &mut [u64])
-    requires { length noted.old ≡ 4 }
-    ensures { noted.new ≡ after }
-{
-    noted[0] = after[0];
-    noted[1] = after[1];
-    noted[2] = after[2];
-    noted[3] = after[3];
-}
-
-fn guide_in(numbers: u64, noted: &mut [u64], section: &[u8]) -> Step
-    requires { length noted.old ≡ 4 }
-    ensures { GuideStepSays numbers noted.old section.now result.answer result.numbers noted.new }
-{
-    let before = unpack_gathering(numbers, noted);
-    let told = before.take(section);
-    let answer = told.answer;
-    let after = told.gathering;
-    let words = after.noted;
-    put_noted(words, noted);
-    Step {
-        answer: pack_guide(answer),
-        numbers: left_gathering(answer, numbers, after),
+        Ok(Answer::NotOurs) => 0x200,
+        Ok(Answer::NotYet) => 0x400,
+        Ok(Answer::Noted { missing }) => missing as u64 * 0x10000,
+        Ok(Answer::Repeat { missing }) => 0x100 + missing as u64 * 0x10000,
+        Err(refusal) => u8::from(refusal) as u64 + refusal.offset() as u64 * 0x100000000,
     }
 }
 
@@ -317,8 +272,19 @@ fn guide_in(numbers: u64, noted: &mut [u64], section: &[u8]) -> Step
 pub fn lukasembo_guide_step(numbers: u64, noted: &mut [u64; 4], section: &[u8]) -> Step
     ensures { GuideStepSays numbers noted.old section.now result.answer result.numbers noted.new }
 {
-    let all: &mut [u64] = noted;
-    guide_in(numbers, all, section)
+    let words = *noted;
+    let before = Gathering {
+        version: (numbers % 0x100) as u8,
+        last: (numbers / 0x100 % 0x100) as u8,
+        noted: words,
+    };
+    let Told { answer, gathering } = before.take(section);
+    let words = gathering.noted;
+    *noted = words;
+    Step {
+        answer: pack_guide(answer),
+        numbers: left_gathering(answer, numbers, gathering),
+    }
 }
 
 // How many names a section has.

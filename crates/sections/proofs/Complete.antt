@@ -4,8 +4,8 @@ use mathlib.Core.List.{List, ◌++◌, map, flat_map}
 use Prim.Native.Nat.{ℕ}
 use native.Mathlib.Omega.{arith}
 use lib.ListN.{length, get_or}
+use Rattle.std.specs.Prelude.{Ok}
 use Rattle.octets.specs.Bits.{Held}
-use Rattle.sections.specs.declared.Walk.TheVariants.{To}
 use Rattle.sections.specs.Sizes.{head_bytes}
 use Rattle.sections.specs.Layout.{Provider, Section, section_head, section_fields, wire, Formed, Carries}
 use Rattle.sections.specs.Walks.{place_of, counted, loops, providers_in}
@@ -24,7 +24,7 @@ module _ (s : Section) where
 
   -- the loops
   record LoopsRead : Type 0 where
-    ends : loops xs ≡ To (length xs)
+    ends : loops xs ≡ Ok (length xs)
     providers : (section_at xs).providers ≡ s.providers
     additional : (section_at xs).additional ≡ s.additional
 
@@ -99,7 +99,7 @@ carried-accepted {xs} c =
             protocol = (λ i. (r i).protocol) ∙ c.protocol;
             current = (λ i. (r i).current) ∙ c.current;
             order = omega (arith, c.order);
-            ends = subst (λ (t : List ℕ). loops t ≡ To (length t)) bytes (loops-read s).ends;
+            ends = subst (λ (t : List ℕ). loops t ≡ Ok (length t)) bytes (loops-read s).ends;
           });
       versioned = (λ i. (r i).version) ∙ c.versioned;
       numbered = number ∙ c.numbered;

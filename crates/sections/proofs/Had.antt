@@ -6,6 +6,7 @@ use native.Mathlib.Omega.{arith}
 use borrow.Author.Tests.{ltb-true, ltb-false, le-ltb}
 use lib.Dec.{ltb}
 use lib.ListN.{get_or, get_or-eq_default}
+use Rattle.std.specs.Prelude.{Ok}
 use Rattle.octets.proofs.Laws.{either}
 use Rattle.sections.specs.declared.Standing.TheVariants.{InForce}
 use Rattle.sections.specs.Layout.{Carries}
@@ -19,7 +20,7 @@ name_none : (xs : List ℕ) (n : ℕ) → name_count xs ≤ n → name_in xs n �
 unfolding name_in
 name_none xs n h = simp (le-ltb n (name_count xs) h) refl
 
-pub no_names : (xs : List ℕ) → (standing xs ≡ InForce → ⊥) → (n : ℕ) → name_in xs n ≡ []
+pub no_names : (xs : List ℕ) → (standing xs ≡ Ok InForce → ⊥) → (n : ℕ) → name_in xs n ≡ []
 no_names xs out n =
     either (is_in_force (standing xs)) (λ t. absurd (out (in_force xs t))) (λ f. name_none xs n (omega (arith, count_none xs f)))
 

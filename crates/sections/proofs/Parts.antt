@@ -4,10 +4,9 @@ use mathlib.Core.List.{List, [], ◌∷◌, flat_map}
 use Prim.Native.Nat.{ℕ, ◌+◌, ◌≤◌}
 use native.Mathlib.Omega.{arith}
 use lib.ListN.{length, get_or}
-use Rattle.sections.specs.declared.Walk.{Walk}
-use Rattle.sections.specs.declared.Walk.TheVariants.{To}
+use Rattle.std.specs.Prelude.{Ok}
 use Rattle.sections.specs.Layout.{Descriptor, Provider}
-use Rattle.sections.specs.Walks.{name_bytes, descriptor_bytes, thing, descriptors, counted, provider, providers, name_at}
+use Rattle.sections.specs.Walks.{Walk, name_bytes, descriptor_bytes, thing, descriptors, counted, provider, providers, name_at}
 use Rattle.sections.proofs.Laws.{thing_goes, thing_there, thing_then, Over, over_append, over_byte, over_split, over_first, text_over, text-read, Repeats, things, Reads, things_over, things_back, length_things}
 use Rattle.sections.proofs.Rows.{descriptor_row, counted_row, provider_row}
 
@@ -15,7 +14,7 @@ module _ (xs : List ℕ) where
   -- ---- a descriptor, and some
 
   unfoldable pub descriptor : ℕ → Walk
-  descriptor at = thing xs at (descriptor_bytes xs at) To
+  descriptor at = thing xs at (descriptor_bytes xs at) Ok
 
   unfoldable pub descriptor_at : ℕ → Descriptor
   descriptor_at at = record { tag = get_or xs at 0; content = name_at xs (at + 1) }
@@ -29,7 +28,7 @@ module _ (xs : List ℕ) where
   descriptor_reads =
       record {
         over = λ at {b} h e.
-            let g = thing_goes xs at (descriptor_bytes xs at) To e in
+            let g = thing_goes xs at (descriptor_bytes xs at) Ok e in
             let end : at + descriptor_bytes xs at ≡ b = cc in
             let next : at + 1 + name_bytes xs (at + 1) ≡ b = omega arith in
             rw (← next) (over_append xs (over_byte xs at (omega arith)) (text_over xs (at + 1) (omega arith)));
@@ -39,7 +38,7 @@ module _ (xs : List ℕ) where
             let end : at + descriptor_bytes xs at ≡ b = omega (arith, t.0) in
             let room : at + descriptor_bytes xs at ≤ length xs = omega (arith, p.within) in
             let tag = over_first xs o in
-            (thing_there xs at (descriptor_bytes xs at) To room ∙ ap To end, λ i. record { tag = tag i; content = t.1 i });
+            (thing_there xs at (descriptor_bytes xs at) Ok room ∙ ap Ok end, λ i. record { tag = tag i; content = t.1 i });
       }
 
   -- ---- a count of descriptors and those

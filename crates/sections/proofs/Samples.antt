@@ -4,10 +4,12 @@ use mathlib.Core.List.{List, [], ◌∷◌, ◌++◌, map, flat_map}
 use Prim.Native.Nat.{ℕ, ◌+◌}
 use native.Mathlib.Omega.{arith}
 use lib.ListN.{length, take}
+use Rattle.std.specs.Prelude.{Result, Ok, Err}
 use Rattle.octets.specs.Bits.{bits, laid, number, octets, bytes_of}
+use Rattle.sections.specs.declared.Refusal.{Refusal}
 use Rattle.sections.specs.declared.Refusal.TheVariants.{BadLength, OtherProtocol, NumberAboveLast, RunsOver}
 use Rattle.sections.specs.declared.Standing.{Standing}
-use Rattle.sections.specs.declared.Standing.TheVariants.{NotOurs, NotYet, InForce, Refused}
+use Rattle.sections.specs.declared.Standing.TheVariants.{NotOurs, NotYet, InForce}
 use Rattle.sections.specs.Sizes.{guide_table}
 use Rattle.sections.specs.Layout.{descriptor_fields, counted_fields, provider_fields, Section, section_head, section_fields, wire, Carries}
 use Rattle.sections.specs.Walks.{descriptors, counted, provider, providers, loops}
@@ -33,7 +35,7 @@ two = 2 ∷ 2 ∷ 0x41 ∷ 0x42 ∷ 1 ∷ 0x80 ∷ 1 ∷ 0x07 ∷ 1 ∷ 0x43 ∷
 -- a sample: the section, what it is, and its first three names with their places, empty and 0 where there is none
 record Sample : Type 0 where
   bytes : List ℕ
-  is : Standing
+  is : Result Standing Refusal
   names : List (List ℕ)
   places : List ℕ
 
@@ -42,17 +44,17 @@ given xs =
     let three : List ℕ = 0 ∷ 1 ∷ 2 ∷ [] in
     record { bytes = xs; is = standing xs; names = map (name_in xs) three; places = map (name_place xs) three }
 
-nameless : Standing → List ℕ → Sample
+nameless : Result Standing Refusal → List ℕ → Sample
 nameless is xs = record { bytes = xs; is = is; names = [] ∷ [] ∷ [] ∷ []; places = 0 ∷ 0 ∷ 0 ∷ [] }
 
 -- the section of two providers, cut behind n bytes of its loops
 cut : ℕ → ℕ → Sample
-cut n at = nameless (Refused (RunsOver at)) (ours (take n two))
+cut n at = nameless (Err (RunsOver at)) (ours (take n two))
 
 samples : List Sample
 samples =
-    nameless InForce (ours none)
-    ∷ record { bytes = ours two; is = InForce; names = (0x41 ∷ 0x42 ∷ []) ∷ (0x43 ∷ []) ∷ [] ∷ []; places = 10 ∷ 17 ∷ 0 ∷ [] }
+    nameless (Ok InForce) (ours none)
+    ∷ record { bytes = ours two; is = Ok InForce; names = (0x41 ∷ 0x42 ∷ []) ∷ (0x43 ∷ []) ∷ [] ∷ []; places = 10 ∷ 17 ∷ 0 ∷ [] }
     ∷ cut 1 9  -- no byte behind the head
     ∷ cut 3 9  -- in a name
     ∷ cut 4 12  -- before the count of a provider's descriptors
@@ -60,14 +62,14 @@ samples =
     ∷ cut 7 13  -- in it
     ∷ cut 11 19  -- before the count of additional descriptors
     ∷ cut 15 20  -- in the last descriptor
-    ∷ nameless (Refused (RunsOver 24)) (ours (two ++ (0 ∷ [])))  -- a byte left over
-    ∷ nameless (Refused BadLength) []
-    ∷ nameless NotOurs (0xDB ∷ [])
-    ∷ nameless (Refused BadLength) (guide_table ∷ [])
-    ∷ nameless (Refused BadLength) (take 9 (ours none))  -- shorter than its section_length
-    ∷ nameless (Refused OtherProtocol) (section guide_table 1 0xCA 2 1 none)
-    ∷ nameless NotYet (section guide_table 0 0xCA 2 1 none)
-    ∷ nameless (Refused NumberAboveLast) (section guide_table 0 0xCB 2 1 (1 ∷ []))  -- and cut
+    ∷ nameless (Err (RunsOver 24)) (ours (two ++ (0 ∷ [])))  -- a byte left over
+    ∷ nameless (Err BadLength) []
+    ∷ nameless (Ok NotOurs) (0xDB ∷ [])
+    ∷ nameless (Err BadLength) (guide_table ∷ [])
+    ∷ nameless (Err BadLength) (take 9 (ours none))  -- shorter than its section_length
+    ∷ nameless (Err OtherProtocol) (section guide_table 1 0xCA 2 1 none)
+    ∷ nameless (Ok NotYet) (section guide_table 0 0xCA 2 1 none)
+    ∷ nameless (Err NumberAboveLast) (section guide_table 0 0xCB 2 1 (1 ∷ []))  -- and cut
     ∷ []
 
 samples_hold : map (λ (s : Sample). given s.bytes) samples ≡ samples

@@ -8,10 +8,9 @@ use lib.ListN.{length, get_or, drop, length-take}
 use Rattle.octets.specs.Bits.{Field, InWidth, Held, run, Bytes}
 use Rattle.octets.specs.Word.{word, high, low}
 use Rattle.octets.proofs.Laws.{packed, each_append, high_word, low_word, bytes_take, bytes_drop, get_d_byte}
-use Rattle.sections.specs.declared.Walk.{Walk}
 use Rattle.sections.specs.Sizes.{guide_table, head_bytes}
 use Rattle.sections.specs.Layout.{descriptor_fields, counted_fields, provider_fields, Section, section_head, section_fields, Carries}
-use Rattle.sections.specs.Walks.{place_of, counted, provider, providers, providers_in, loops, name_bytes, name_at}
+use Rattle.sections.specs.Walks.{Walk, place_of, counted, provider, providers, providers_in, loops, name_bytes, name_at}
 use Rattle.sections.specs.Reading.{size_in, protocol_in, version_in, current_in, number_in, last_in, provider_place, Accepts}
 use Rattle.sections.proofs.Laws.{then_goes, over_append, bytes_from, over_bytes, over_whole, things, things_over}
 use Rattle.sections.proofs.Parts.{descriptor, descriptor_at, counted_at, length-counted, counted_reads, provider_at, providers_at, length-providers, providers-repeat, provider_reads}

@@ -1,15 +1,14 @@
 -- Document 02's reader of a guide's section: the fields by their places, the checks in order, the numbers, and the names.
-use Rattle.std.specs.Prelude.{ℕ, zero, suc, ◌+◌, ◌/◌, ◌%◌, ◌≤◌, ◌≡◌, Bool, true, false, not, cond, ◌&&◌, List, [], ◌∷◌, ltb, leb, eqb, length, get_or, take, drop}
+use Rattle.std.specs.Prelude.{ℕ, zero, suc, ◌+◌, ◌/◌, ◌%◌, ◌≤◌, ◌≡◌, Bool, true, false, not, cond, ◌&&◌, List, [], ◌∷◌, ltb, leb, eqb, length, get_or, take, drop, Result, Ok, Err}
 use Rattle.octets.specs.Word.{word}
 use Rattle.octets.specs.Checks.{check}
 use Rattle.sections.specs.declared.Refusal.{Refusal}
 use Rattle.sections.specs.declared.Refusal.TheVariants.{BadLength, OtherProtocol, NumberAboveLast, RunsOver}
 use Rattle.sections.specs.declared.Standing.{Standing}
-use Rattle.sections.specs.declared.Standing.TheVariants.{NotOurs, NotYet, InForce, Refused}
-use Rattle.sections.specs.declared.Walk.{Walk}
-use Rattle.sections.specs.declared.Walk.TheVariants.{To, Cut}
+use Rattle.sections.specs.declared.Standing.TheVariants.{NotOurs, NotYet, InForce}
 use Rattle.sections.specs.Sizes.{guide_table, head_bytes, uncounted_bytes, most_length}
-use Rattle.sections.specs.Walks.{place_of, providers, providers_in, loops, name_at, provider}
+use Rattle.sections.specs.Walks.{Walk, place_of, providers, providers_in, loops, name_at, provider}
+pub use Rattle.sections.specs.Walks.{offset_of}
 
 -- ---- the fields of a section xs
 
@@ -41,29 +40,29 @@ unfoldable pub has_length : List ℕ → Bool
 has_length xs = leb head_bytes (length xs) && (leb (size_in xs) most_length && eqb (size_in xs + uncounted_bytes) (length xs))
 
 -- nothing runs past the end, and no byte is left over
-abbrev pub loops_end : Walk → List ℕ → Standing
-loops_end (To at) xs = check (ltb at (length xs)) (Refused (RunsOver at)) InForce
-loops_end (Cut at) xs = Refused (RunsOver at)
+abbrev pub loops_end : Walk → List ℕ → Result Standing Refusal
+loops_end (Ok at) xs = check (ltb at (length xs)) (Err (RunsOver at)) (Ok InForce)
+loops_end (Err f) xs = Err f
 
-unfoldable pub loops_standing : List ℕ → Standing
+unfoldable pub loops_standing : List ℕ → Result Standing Refusal
 loops_standing xs = loops_end (loops xs) xs
 
 -- once its length is right
-abbrev pub head_standing : List ℕ → Standing
+abbrev pub head_standing : List ℕ → Result Standing Refusal
 head_standing xs =
-    check (not (eqb (protocol_in xs) 0)) (Refused OtherProtocol)  -- 21
-    (check (eqb (current_in xs) 0) NotYet
-    (check (ltb (last_in xs) (number_in xs)) (Refused NumberAboveLast)  -- 22
+    check (not (eqb (protocol_in xs) 0)) (Err OtherProtocol)  -- 21
+    (check (eqb (current_in xs) 0) (Ok NotYet)
+    (check (ltb (last_in xs) (number_in xs)) (Err NumberAboveLast)  -- 22
     (loops_standing xs)))  -- 23
 
-unfoldable pub standing : List ℕ → Standing
+unfoldable pub standing : List ℕ → Result Standing Refusal
 standing xs =
-    check (eqb (length xs) 0) (Refused BadLength)  -- 20
-    (check (not (is_ours (get_or xs 0 0))) NotOurs
-    (check (not (has_length xs)) (Refused BadLength)  -- 20
+    check (eqb (length xs) 0) (Err BadLength)  -- 20
+    (check (not (is_ours (get_or xs 0 0))) (Ok NotOurs)
+    (check (not (has_length xs)) (Err BadLength)  -- 20
     (head_standing xs)))
 
--- ---- document 02's numbers, and the offset in the section that a refusal tells: with 23 alone
+-- ---- document 02's numbers
 
 abbrev pub number_of : Refusal → ℕ
 number_of BadLength = 20
@@ -71,19 +70,13 @@ number_of OtherProtocol = 21
 number_of NumberAboveLast = 22
 number_of (RunsOver at) = 23
 
-abbrev pub offset_of : Refusal → ℕ
-offset_of BadLength = 0
-offset_of OtherProtocol = 0
-offset_of NumberAboveLast = 0
-offset_of (RunsOver at) = at
-
 -- ---- the names
 
-abbrev pub is_in_force : Standing → Bool
-is_in_force InForce = true
-is_in_force NotOurs = false
-is_in_force NotYet = false
-is_in_force (Refused f) = false
+abbrev pub is_in_force : Result Standing Refusal → Bool
+is_in_force (Ok InForce) = true
+is_in_force (Ok NotOurs) = false
+is_in_force (Ok NotYet) = false
+is_in_force (Err f) = false
 
 -- where the n-th provider begins, n from 0
 abbrev pub provider_place : List ℕ → ℕ → ℕ
@@ -118,7 +111,7 @@ names_in xs = names_from xs (providers_in xs) head_bytes
 
 -- the section xs passes the checks, and is read so
 pub record Accepts (xs : List ℕ) (version number last : ℕ) (names : List (List ℕ)) : Type 0 where
-  pub passes : standing xs ≡ InForce
+  pub passes : standing xs ≡ Ok InForce
   pub versioned : version_in xs ≡ version
   pub numbered : number_in xs ≡ number
   pub ended : last_in xs ≡ last

@@ -191,7 +191,7 @@ pub fn close_for_c(
     lukasembo::lukasembo_close_step(numbers, since, left, output)
 }
 
-pub fn size_of(word: &[u8]) -> usize
+pub fn size_of(word: &[u8]) -> Option<usize>
     ensures { result ≡ size_in word.now }
 {
     wrapping::size_of(word)

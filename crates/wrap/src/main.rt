@@ -11,16 +11,14 @@ const USUAL_SIZE: usize = 1400;
 // The number of a size that payloads may not have.
 const BAD_SIZE: u8 = 18;
 
-// The payload size that the word says; 0 where it says none that payloads may have. No word is longer than the memory for it.
-fn size_given<R: Env>(rt: &R) -> usize {
+// The payload size that the word says, if payloads may have it. No word is longer than the memory for it.
+fn size_given<R: Env>(rt: &R) -> Option<usize> {
     if !manners::has_word(rt, 1) {
-        return USUAL_SIZE;
+        return Some(USUAL_SIZE);
     }
     let mut word = [0u8; 131072];
-    match rt.arg(1, &mut word) {
-        Ok(length) => wrapping::size_of(&word[..length]),
-        Err(_) => 0,
-    }
+    let length = rt.arg(1, &mut word).ok()?;
+    wrapping::size_of(&word[..length])
 }
 
 fn main(rt: HostRuntime) -> ExitCode {
@@ -31,10 +29,9 @@ fn main(rt: HostRuntime) -> ExitCode {
             b"wrap: takes one word, the payload size from 64 to 1400: wrap 1400 < packets.ip > outer.op\n",
         ));
     }
-    let size = size_given(&rt);
-    if size == 0 {
+    let Some(size) = size_given(&rt) else {
         return ExitCode::from(manners::refuse(&mut aside, b"wrap", BAD_SIZE));
-    }
+    };
     let mut from = Watched::new(rt.stdin());
     let mut to = Watched::new(rt.stdout());
     let mut block = [0u8; 131072];

@@ -21,10 +21,15 @@ fn open<R: Files + Eprint, W: Write>(
     samples::open(rt, to, name, blocks, what)
 }
 
+// The size that a word says, else one that payloads may not have.
+fn size_of(word: &[u8]) -> usize {
+    wrapping::size_of(word).unwrap_or(0)
+}
+
 // Through a block of one of the longest records; what is not printed goes nowhere.
 fn run_slowly<R: Files + Eprint, W: Write>(rt: &R, to: &mut W, name: &str, word: &[u8]) {
     let mut block = [0u8; 1504];
-    let size = wrapping::size_of(word);
+    let size = size_of(word);
     let mut packets = open(rt, to, name, word, 1504, b": packets\n");
     wrap_stream::copy_slowly(size, &mut packets, to, &mut io::sink(), &mut block);
     samples::say(to, b"\n");
@@ -36,7 +41,7 @@ fn run_slowly<R: Files + Eprint, W: Write>(rt: &R, to: &mut W, name: &str, word:
 // Through a large one.
 fn run<R: Files + Eprint, W: Write>(rt: &R, to: &mut W, name: &str, word: &[u8]) {
     let mut block = [0u8; 131072];
-    let size = wrapping::size_of(word);
+    let size = size_of(word);
     let mut packets = open(rt, to, name, word, 131072, b": packets\n");
     wrap_stream::copy(size, &mut packets, to, &mut io::sink(), &mut block);
     samples::say(to, b"\n");

@@ -15,15 +15,6 @@ use Rattle.wrapping.specs.Wrapping.{record_head_bytes, outer_record, outer_recor
 
 -- ---- an outer packet
 
-pub outer-stored : (outers : List ℕ) (from n : ℕ) (out : List ℕ) (to : ℕ) → from + n ≤ length outers → (mark head out' : List ℕ) → mark ≡ sets out to (text "OP") → head ≡ sets mark (to + 2) (word_bytes n) → out' ≡ sets head (to + record_head_bytes) (take n (drop from outers)) → out' ≡ sets out to (outer_record (take n (drop from outers)))
-outer-stored outers from n out to inside mark head out' marked put is =
-    let outer : List ℕ = take n (drop from outers) in
-    let long : length outer ≡ n = length-take-le n (drop from outers) (omega (arith, length-drop from outers)) in
-    is
-    ∙ ap (λ (l : List ℕ). sets l (to + record_head_bytes) outer) (put ∙ sets_behind (text "OP") (word_bytes n) out mark to marked)
-    ∙ sym (sets-append (text "OP" ++ word_bytes n) outer out to)
-    ∙ ap (λ (m : ℕ). sets out to (text "OP" ++ (word_bytes m ++ outer))) (sym long)
-
 length-outer_record : (outer : List ℕ) → length (outer_record outer) ≡ record_head_bytes + length outer
 length-outer_record outer = omega arith
 
@@ -49,35 +40,34 @@ module _ (k n : ℕ) (outers out₀ : List ℕ) (to : ℕ) where
   puts_inside out zero from end some p = absurd (omega arith)
   puts_inside out (suc todo) from end some p = (omega (arith, p.inside, suc-mul todo n), omega (arith, p.room, suc-mul todo (record_head_bytes + n)))
 
-  pub puts_next : (out : List ℕ) (todo from end : ℕ) → 0 < todo → Puts out todo from end → (out' : List ℕ) → out' ≡ sets out end (outer_record (take n (drop from outers))) → Puts out' (todo - 1) (from + n) (end + (record_head_bytes + n))
+  pub puts_next : (out : List ℕ) (todo more from end : ℕ) → todo ≡ suc more → Puts out todo from end → (out' : List ℕ) → out' ≡ sets out end (outer_record (take n (drop from outers))) → Puts out' more (from + n) (end + (record_head_bytes + n))
   unfolding cut_into outer_records flat_map
-  puts_next out zero from end some p out' is = absurd (omega arith)
-  puts_next out (suc todo) from end some p out' is =
+  puts_next out todo more from end one p out' is =
+      let q : Puts out (suc more) from end = rw one at p in
       let outer : List ℕ = take n (drop from outers) in
-      let more : List ℕ = records_at todo (from + n) in
-      let count : suc todo - 1 ≡ todo = omega arith in
+      let rest : List ℕ = records_at more (from + n) in
       let size : length (outer_record outer) ≡ record_head_bytes + n =
-      length-outer_record outer ∙ ap (λ (m : ℕ). record_head_bytes + m) (length-take-le n (drop from outers) (omega (arith, length-drop from outers, p.inside, suc-mul todo n))) in
+      length-outer_record outer ∙ ap (λ (m : ℕ). record_head_bytes + m) (length-take-le n (drop from outers) (omega (arith, length-drop from outers, q.inside, suc-mul more n))) in
       let same : length out' ≡ length out = ap length is ∙ length-sets out end (outer_record outer) in
-      let rest : records_at (suc todo) from ≡ outer_record outer ++ more = ap (λ (l : List ℕ). outer_record outer ++ outer_records (cut_into todo n l)) (drop-drop n from outers) in
-      rw count
-      (record {
-        same = same ∙ p.same;
-        inside = omega (arith, p.inside, suc-mul todo n);
-        room = omega (arith, p.room, suc-mul todo (record_head_bytes + n), same);
-        place = omega (arith, p.place, ap length rest, length-append (outer_record outer) more, size);
+      let whole : records_at (suc more) from ≡ outer_record outer ++ rest = ap (λ (l : List ℕ). outer_record outer ++ outer_records (cut_into more n l)) (drop-drop n from outers) in
+      record {
+        same = same ∙ q.same;
+        inside = omega (arith, q.inside, suc-mul more n);
+        room = omega (arith, q.room, suc-mul more (record_head_bytes + n), same);
+        place = omega (arith, q.place, ap length whole, length-append (outer_record outer) rest, size);
         whole =
-            ap (λ (l : List ℕ). sets l (end + (record_head_bytes + n)) more) is
-            ∙ ap (λ (m : ℕ). sets (sets out end (outer_record outer)) (end + m) more) (sym size)
-            ∙ sym (sets-append (outer_record outer) more out end)
-            ∙ ap (sets out end) (sym rest)
-            ∙ p.whole;
-      })
+            ap (λ (l : List ℕ). sets l (end + (record_head_bytes + n)) rest) is
+            ∙ ap (λ (m : ℕ). sets (sets out end (outer_record outer)) (end + m) rest) (sym size)
+            ∙ sym (sets-append (outer_record outer) rest out end)
+            ∙ ap (sets out end) (sym whole)
+            ∙ q.whole;
+      }
 
-  pub puts_end : (out : List ℕ) (todo from end : ℕ) → todo ≤ 0 → Puts out todo from end → Put (outer_records (cut_into k n outers)) out₀ to out end
+  pub puts_end : (out : List ℕ) (todo from end : ℕ) → todo ≡ 0 → Puts out todo from end → Put (outer_records (cut_into k n outers)) out₀ to out end
   unfolding cut_into outer_records flat_map
-  puts_end out zero from end none p = (sym (add-zero end) ∙ p.place, p.whole)
-  puts_end out (suc todo) from end none p = absurd (omega arith)
+  puts_end out todo from end none p =
+      let q : Puts out 0 from end = rw none at p in
+      (sym (add-zero end) ∙ q.place, q.whole)
 
 -- ---- outer packets that are all of one length
 

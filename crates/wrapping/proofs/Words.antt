@@ -2,6 +2,7 @@
 use mathlib.Core.Path.{◌≡◌, refl, sym, ap, ◌∙◌}
 use mathlib.Core.Bool.{true, false, and-false}
 use mathlib.Core.List.{List, [], ◌∷◌}
+use Rattle.std.proofs.Common.{Some, None}
 use Prim.Native.Char.{code}
 use Prim.Native.Nat.{ℕ, suc, ◌+◌, ◌*◌, ◌-◌, ◌≤◌, ◌<◌}
 use native.Mathlib.Numerals.{add-one}
@@ -54,18 +55,6 @@ size-capped n =
     simp (t, lt-leb n most_size above, and-false))
     (λ t. rw t refl)
 
--- ---- a byte, by the code's tests
-
-module _ (c : ℕ) where
-  pub digit_below : c < code "0" → is_digit c ≡ false
-  digit_below h = simp (lt-leb (code "0") c h)
-
-  pub digit_above : code "9" < c → is_digit c ≡ false
-  digit_above h = simp (lt-leb c (code "9") h, and-false)
-
-  pub digit_is : code "0" ≤ c → c ≤ code "9" → is_digit c ≡ true
-  digit_is h k = simp (le-leb (code "0") c h, le-leb c (code "9") k)
-
 -- ---- the loop: the digits that are left, behind the number so far, say the whole
 
 pub record Reads (word : List ℕ) (n i : ℕ) : Type 0 where
@@ -79,7 +68,7 @@ reads_start word = record { inside = omega arith; most = omega arith; digits = r
 
 module _ (word : List ℕ) (n i : ℕ) (r : Reads word n i) where
   -- a byte that is no digit
-  pub reads_none : i < length word → is_digit (get_or word i 0) ≡ false → 0 ≡ size_in word
+  pub reads_none : i < length word → is_digit (get_or word i 0) ≡ false → None ≡ size_in word
   unfolding size_in
   reads_none more other =
       let none : all_digits word ≡ false = r.digits ∙ ap all_digits (drop-cons word i 0 more) ∙ simp other in
@@ -110,15 +99,15 @@ module _ (word : List ℕ) (n i : ℕ) (r : Reads word n i) where
     size_same : is_size (number_from 0 word) ≡ is_size n
     size_same = sym (size-capped (number_from 0 word)) ∙ ap is_size said
 
-    pub reads_size : is_size n ≡ true → n ≡ size_in word
+    pub reads_size : is_size n ≡ true → Some n ≡ size_in word
     unfolding size_in
     reads_size t =
         let within = size-within (number_from 0 word) (size_same ∙ t) in
         let is : number_from 0 word ≡ n = sym (capped_same (number_from 0 word) (omega (arith, within.1))) ∙ said in
         either (eqb (length word) 0)
         (λ z. absurd (omega (arith, within.0, ap (number_from 0) (drop_of_length-le word {i = 0} (omega (arith, eqb-true (length word) 0 z))))))
-        (λ z. simp (z, all, size_same, t) (sym is))
+        (λ z. simp (z, all, size_same, t) (ap Some (sym is)))
 
-    pub reads_other : is_size n ≡ false → 0 ≡ size_in word
+    pub reads_other : is_size n ≡ false → None ≡ size_in word
     unfolding size_in
     reads_other t = simp (size_same, t, and-false)

@@ -1,5 +1,5 @@
 -- The word of the program `wrap`: a payload's size, in decimal digits.
-use Rattle.std.specs.Prelude.{ℕ, ◌+◌, ◌*◌, ◌-◌, Bool, true, not, cond, ◌&&◌, List, [], ◌∷◌, ltb, leb, eqb, length}
+use Rattle.std.specs.Prelude.{ℕ, ◌+◌, ◌*◌, ◌-◌, Bool, true, not, cond, ◌&&◌, List, [], ◌∷◌, ltb, leb, eqb, length, Option, Some, None}
 use Prim.Native.Char.{code}
 use Rattle.wrapper.specs.Wrap.{most_size, is_size}
 
@@ -15,11 +15,11 @@ abbrev pub number_from : ℕ → List ℕ → ℕ
 number_from n [] = n
 number_from n (c ∷ cs) = number_from (n * 10 + (c - code "0")) cs
 
--- the size that a word says, of any number of digits; 0 where it says none that a payload may have
-unfoldable pub size_in : List ℕ → ℕ
+-- the size that a word says, of any number of digits, if a payload may have it
+unfoldable pub size_in : List ℕ → Option ℕ
 size_in word =
     let n = number_from 0 word in
-    cond (not (eqb (length word) 0) && (all_digits word && is_size n)) n 0
+    cond (not (eqb (length word) 0) && (all_digits word && is_size n)) (Some n) None
 
 -- a number as far as it matters: all that are above the limits are one
 abbrev pub capped : ℕ → ℕ

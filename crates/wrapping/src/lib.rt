@@ -2,7 +2,7 @@
 // through a block of the file.
 #![tactic(auto)]
 
-ghost use Rattle.std.specs.Prelude.{◌≡◌, ◌+◌, ◌*◌, ◌-◌, ◌≤◌, length, take, drop};
+ghost use Rattle.std.specs.Prelude.{◌≡◌, ◌+◌, ◌*◌, ◌-◌, ◌≤◌, length, drop};
 ghost use Rattle.std.proofs.lemmas.List.Edits.{sets};
 ghost use Rattle.text.specs.Text.{Put};
 ghost use Rattle.records.specs.Records.{entry_in};
@@ -51,26 +51,18 @@ const STAMP_MARK: u16 = TI[0] as u16 * 256 + TI[1] as u16;
 
 // ---- the word
 
-// The payload's size that a word says; 0 where it says none that payloads may have.
-pub fn size_of(word: &[u8]) -> usize
+// The payload's size that a word says, if payloads may have it.
+pub fn size_of(word: &[u8]) -> Option<usize>
     ensures { result ≡ size_in word.now }
 {
     let mut n = 0;
-    let mut i = 0;
-    while i < word.len() {
-        if word[i] < b'0' {
-            return 0;
+    for &byte in word {
+        if !byte.is_ascii_digit() {
+            return None;
         }
-        if b'9' < word[i] {
-            return 0;
-        }
-        n = more_of(n, word[i]);
-        i += 1;
+        n = more_of(n, byte);
     }
-    if wrapper::is_size(n) {
-        return n;
-    }
-    0
+    if wrapper::is_size(n) { Some(n) } else { None }
 }
 
 // A number with one more digit; above the limits it stays there.
@@ -80,9 +72,10 @@ fn more_of(n: usize, digit: u8) -> usize
 {
     let more = n * 10 + (digit - 48) as usize;
     if wrapper::MOST_SIZE < more {
-        return wrapper::MOST_SIZE + 1;
+        wrapper::MOST_SIZE + 1
+    } else {
+        more
     }
-    more
 }
 
 // ---- the file
@@ -121,14 +114,14 @@ fn stamp_at(file: &[u8], at: usize) -> u32
 
 // ---- outer packets as records
 
-// Puts the outer packet of n bytes at a place of those that were written, as a record.
-fn put_outer(outers: &[u8], from: usize, n: usize, out: &mut [u8], to: usize)
-    requires { (n ≤ 65535) × (from + n ≤ length outers.now) × (to + (record_head_bytes + n) ≤ length out.old) }
-    ensures { out.new ≡ sets out.old to (outer_record (take n (drop from outers.now))) }
+// Puts an outer packet as a record.
+fn put_outer(outer: &[u8], out: &mut [u8], to: usize)
+    requires { (length outer.now ≤ 65535) × (to + (record_head_bytes + length outer.now) ≤ length out.old) }
+    ensures { out.new ≡ sets out.old to (outer_record outer.now) }
 {
     octets::put_mark(*b"OP", out, to);
-    octets::put_word(n as u16, out, to + 2);
-    copies::put(out, to + RECORD_HEAD_BYTES, outers, from, n);
+    octets::put_word(outer.len() as u16, out, to + 2);
+    copies::put(out, to + RECORD_HEAD_BYTES, outer, 0, outer.len());
 }
 
 // Puts k outer packets of n bytes each, which stand end to end, as records; answers the place after them.
@@ -136,12 +129,10 @@ fn put_outers(k: usize, n: usize, outers: &[u8], out: &mut [u8], to: usize) -> u
     requires { (n ≤ 65535) × (k * n ≤ length outers.now) × (to + k * (record_head_bytes + n) ≤ length out.old) }
     ensures { Put (outer_records (cut_into k n outers.now)) out.old to out.new result }
 {
-    let mut todo = k;
     let mut from = 0;
     let mut end = to;
-    while 0 < todo {
-        put_outer(outers, from, n, out, end);
-        todo -= 1;
+    for _ in 0..k {
+        put_outer(&outers[from..from + n], out, end);
         from += n;
         end += RECORD_HEAD_BYTES + n;
     }

@@ -5,10 +5,10 @@ use mathlib.Core.List.{[], ◌∷◌}
 use Prim.Native.Nat.{ℕ, ◌≤◌, ◌<◌}
 use Prim.Native.Char.{code}
 use native.Mathlib.Omega.{arith}
-use lib.ListN.{length, get_or}
+use lib.ListN.{length}
 use Rattle.hex_text.proofs.Written.{length-hex}
 use Rattle.guide_lines.specs.Lines.{escaped}
-use Rattle.guide_lines.proofs.Laws.{escaped_digits, byte_part}
+use Rattle.guide_lines.proofs.Laws.{escaped_digits}
 use Rattle.guide_lines.proofs.put_byte.Goals as goal
 use Rattle.guide_lines.proofs.put_byte.Goals.{in_default-via-then-byte-lt32, in_default-via-else-byte-lt32+else-byte-lt127}
 
@@ -18,9 +18,8 @@ length-digits b other d = omega (arith, ap length (escaped_digits b other d), le
 
 pub put_hex-requires : goal.put_hex-requires
 put_hex-requires c =
-    let xs = c.args.name.now in
-    let i = c.args.i in
+    let b = c.args.byte in
     elim c.in_default.branch [
-      | in_default-via-then-byte-lt32 w ↦ omega (arith, length-digits (get_or xs i 0) (omega arith) (inl (omega arith)), ap length (byte_part xs i c.requires.0))
-      | in_default-via-else-byte-lt32+else-byte-lt127 w ↦ omega (arith, length-digits (get_or xs i 0) (omega arith) (inr (omega arith)), ap length (byte_part xs i c.requires.0))
+      | in_default-via-then-byte-lt32 w ↦ omega (arith, length-digits b (omega arith) (inl (omega arith)), length-hex (b ∷ []))
+      | in_default-via-else-byte-lt32+else-byte-lt127 w ↦ omega (arith, length-digits b (omega arith) (inr (omega arith)), length-hex (b ∷ []))
     ]

@@ -8,10 +8,11 @@ use Rattle.sections.proofs.name.Goals as goal
 
 pub returns : goal.returns
 returns c = let a = c.args in
-    let called = c.name_place-place in
-    let size : called.result.from + called.result.length - called.result.from ≡ called.result.length = omega arith in
-    let place : called.result.from + a.section.ref_ptr.1 ≡ a.section.ref_ptr.1 + name_place a.section.now a.n = omega (arith, called.ensures.begins) in
+    let p = c.name_place-from.result in
+    let s = c.name_place-from.ensures in
+    let size : p.from + p.length - p.from ≡ p.length = omega arith in
+    let place : p.from + a.section.ref_ptr.1 ≡ a.section.ref_ptr.1 + name_place a.section.now a.n = omega (arith, s.begins) in
     record {
-      result_value = ap (λ (k : ℕ). take k (drop called.result.from a.section.now)) size ∙ called.ensures.bytes;
+      result_value = ap (λ (k : ℕ). take k (drop p.from a.section.now)) size ∙ s.bytes;
       ref_ptr_value = λ i. (a.section.ref_ptr.0, place i);
     }

@@ -1,32 +1,31 @@
 -- `sections::step_descriptors` meets its contract: the walk over what is left, from here on, is the walk asked for. Assumes nothing.
-use mathlib.Core.Path.{refl, sym, ◌∙◌}
-use Prim.Native.Nat.{◌+◌, ◌≤◌}
-use lib.ListN.{length}
+use mathlib.Core.Path.{◌≡◌, ◌∙◌}
+use Rattle.std.specs.Prelude.{Ok, Err}
 use Rattle.sections.specs.Walks.{descriptor_bytes}
-use Rattle.sections.proofs.Steps.{none_left, descriptor_cut, descriptor_fits}
+use Rattle.sections.proofs.Laws.{step_goes, step_cut, repeats_goes, repeats_cut, repeats_end}
+use Rattle.sections.proofs.Parts.{descriptor, descriptors-repeat}
 use native.Mathlib.Omega.{arith}
 use Rattle.sections.proofs.step_descriptors.Goals as goal
 
-pub loop-left-init : goal.loop-left-init
-loop-left-init c = (c.requires.0, refl)
+pub returns-in_err-step_over : goal.returns-in_err-step_over
+unfolding descriptor
+returns-in_err-step_over c = let xs = c.args.section.now in
+    let l = c.loop in
+    let told : c.from_residual.result ≡ Err c.in_err-step_over.field-0.0 = grind arith in
+    told ∙ repeats_cut (descriptors-repeat xs) _ _ l.at l.invariant.1 c.loop-test.true (step_cut xs l.at 2 (descriptor_bytes xs l.at) (omega arith) c.in_err-step_over.ensures Ok)
 
-pub returns-then-room-lt2 : goal.returns-then-room-lt2
-returns-then-room-lt2 c = let a = c.args in
-    let l = c.loop-left in
-    sym (descriptor_cut a.section.now l.at l.left c.loop-left-test.true (omega arith)) ∙ l.invariant.1
+pub returns-in_err-at : goal.returns-in_err-at
+unfolding descriptor
+returns-in_err-at c = let l = c.loop in
+    let told : c.from_residual-in_err-at.result ≡ Err c.in_err-at.field-0.0 = grind arith in
+    told ∙ repeats_cut (descriptors-repeat c.args.section.now) _ _ l.at l.invariant.1 c.loop-test.true c.in_err-at.ensures
 
-pub returns-then-room-size : goal.returns-then-room-size
-returns-then-room-size c = let a = c.args in
-    let l = c.loop-left in
-    sym (descriptor_cut a.section.now l.at l.left c.loop-left-test.true (omega arith)) ∙ l.invariant.1
-
-pub loop-left-preserved : goal.loop-left-preserved
-loop-left-preserved c = let a = c.args in
-    let l = c.loop-left in
-    let fits : l.at + descriptor_bytes a.section.now l.at ≤ length a.section.now = omega arith in
-    (fits, sym (descriptor_fits a.section.now l.at l.left c.loop-left-test.true fits) ∙ l.invariant.1)
+pub loop-preserved : goal.loop-preserved
+unfolding descriptor
+loop-preserved c = let xs = c.args.section.now in
+    let l = c.loop in
+    ((step_goes xs l.at (descriptor_bytes xs l.at) c.in_ok-at.ensures).1, repeats_goes (descriptors-repeat xs) _ _ l.at l.invariant.1 c.loop-test.true c.in_ok-at.ensures)
 
 pub returns : goal.returns
-returns c = let a = c.args in
-    let l = c.loop-left in
-    sym (none_left a.section.now l.at l.left c.loop-left-test.false) ∙ l.invariant.1
+returns c = let l = c.loop in
+    repeats_end (descriptors-repeat c.args.section.now) _ _ l.at l.invariant.1 c.loop-test.false
