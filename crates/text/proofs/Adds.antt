@@ -1,6 +1,6 @@
 -- Laws of what is put to an output. Assumes nothing.
-use mathlib.Core.Path.{◌≡◌, ap, ap₂, sym, subst, ◌∙◌}
-use mathlib.Core.List.{List, ◌++◌}
+use mathlib.Core.Path.{◌≡◌, refl, ap, ap₂, sym, subst, ◌∙◌}
+use mathlib.Core.List.{List, [], ◌++◌}
 use Prim.Native.Nat.{ℕ, ◌+◌, ◌≤◌}
 use native.Mathlib.Omega.{arith}
 use lib.ListN.{length, length-append}
@@ -38,3 +38,7 @@ put-adds o p put same from at to end = record { memory = same; bytes = cc; at = 
 -- room for all is room for the rest
 pub room_behind : {vs : List ℕ} (ws : List ℕ) {o p : Output} → Adds vs o p → HasRoom (length (vs ++ ws)) o → HasRoom (length ws) p
 room_behind {vs = vs} ws a room = omega (arith, a.at, adds_length a, length-append vs ws)
+
+-- nothing is put
+pub adds_none : (o : Output) → Adds [] o o
+adds_none o = record { memory = refl; bytes = refl; at = omega arith }
