@@ -26,16 +26,10 @@ fn say_listing<W: Write>(to: &mut W, listing: &[u8]) {
 
 // How many bytes there are up to the last that is not as it was at first.
 fn changed(bytes: &[u8]) -> usize {
-    let mut end = 0;
-    let mut i = 0;
-    while i < bytes.len() {
-        let byte = bytes[i];
-        i += 1;
-        if byte != BEFORE {
-            end = i;
-        }
+    match bytes.iter().rposition(|&byte| byte != BEFORE) {
+        Some(last) => last + 1,
+        None => 0,
     }
-    end
 }
 
 fn say_answer<W: Write>(to: &mut W, answer: Result<Answer, Refusal>) {
@@ -68,11 +62,9 @@ fn say_shown<'a, W: Write>(to: &mut W, desk: Desk, first: &'a [u8], second: &'a 
 // A segment, with these buffers.
 fn take<W: Write>(to: &mut W, desk: Desk, seg: &[u8], first: &mut [u8], second: &mut [u8]) -> Desk {
     let taken = desk.segment(seg, first, second);
-    let answer = taken.answer;
-    let after = taken.desk;
-    say_answer(to, answer);
-    say_shown(to, after, first, second);
-    after
+    say_answer(to, taken.answer);
+    say_shown(to, taken.desk, first, second);
+    taken.desk
 }
 
 // A segment, with the first bytes of these buffers.
@@ -97,7 +89,7 @@ fn take_in<W: Write>(
 impl Bench {
     pub fn of(desk: Desk) -> Bench {
         Bench {
-            desk: desk,
+            desk,
             first: [BEFORE; ROOM],
             second: [BEFORE; ROOM],
         }
@@ -119,12 +111,11 @@ impl Bench {
         let mut first = self.first;
         let mut second = self.second;
         tell::say(to, name);
-        let desk = self.desk;
-        let after = take_in(to, desk, seg, &mut first, m, &mut second, n);
+        let desk = take_in(to, self.desk, seg, &mut first, m, &mut second, n);
         Bench {
-            desk: after,
-            first: first,
-            second: second,
+            desk,
+            first,
+            second,
         }
     }
 
@@ -153,31 +144,21 @@ impl Bench {
 
     // Names the desk as it now stands, and shows it.
     pub fn now<W: Write>(self, to: &mut W, name: &[u8]) -> Bench {
-        let first = self.first;
-        let second = self.second;
         tell::say(to, name);
-        let desk = self.desk;
-        say_shown(to, desk, &first, &second);
+        say_shown(to, self.desk, &self.first, &self.second);
         self
     }
 
     fn with(self, desk: Desk) -> Bench {
-        let first = self.first;
-        let second = self.second;
-        Bench {
-            desk: desk,
-            first: first,
-            second: second,
-        }
+        Bench { desk, ..self }
     }
 
     pub fn gathering<W: Write>(self, to: &mut W) -> Bench {
-        let desk = self.desk;
-        self.with(desk.new_gathering()).now(to, b"new gathering")
+        self.with(self.desk.new_gathering())
+            .now(to, b"new gathering")
     }
 
     pub fn frame<W: Write>(self, to: &mut W) -> Bench {
-        let desk = self.desk;
-        self.with(desk.new_frame()).now(to, b"new frame")
+        self.with(self.desk.new_frame()).now(to, b"new frame")
     }
 }

@@ -16,13 +16,8 @@ fn made(first: u8, second: u8, payload: &[u8]) -> [u8; 37] {
     let mut seg = [0xFFu8; SEGMENT_BYTES];
     seg[0] = first;
     seg[1] = second;
-    let mut i = 0;
-    while i < PAYLOAD_BYTES {
-        if i < payload.len() {
-            seg[2 + i] = payload[i];
-        }
-        i += 1;
-    }
+    let held = payload.len().min(PAYLOAD_BYTES);
+    seg[2..2 + held].copy_from_slice(&payload[..held]);
     seg
 }
 
@@ -125,9 +120,9 @@ fn order<W: Write>(to: &mut W) {
 
 fn slot(last: u8, held: u16, spoiled: bool) -> Slot {
     Slot {
-        last: last,
-        held: held,
-        spoiled: spoiled,
+        last,
+        held,
+        spoiled,
     }
 }
 
@@ -150,8 +145,8 @@ fn desk(shown: usize, coming: usize, mine: Slot, other: Slot, at: usize, byte: u
         notes: Notes {
             this: mine,
             next: other,
-            shown: shown,
-            coming: coming,
+            shown,
+            coming,
             swapped: true,
         },
         bytes: bytes(at, byte),

@@ -1,22 +1,14 @@
 // Prints what a recorded log says, each refusal with the field at fault, and what is wrong with a chunk: explain < FILE
 #![tactic(auto)]
 
-use manners::Watched;
 use std::process::ExitCode;
 
 fn main(rt: HostRuntime) -> ExitCode {
-    let mut aside = rt.stderr();
-    if let Some(status) = manners::has_words(
+    let status = manners::run_wordless(
         &rt,
-        &mut aside,
+        b"explain",
         b"explain: takes no words; put < before a file's name: explain < my.log\n",
-    ) {
-        return ExitCode::from(status);
-    }
-    let mut from = Watched::new(rt.stdin());
-    let mut to = Watched::new(rt.stdout());
-    let mut block = [0u8; 131072];
-    let ending = explain_stream::copy(&mut from, &mut to, &mut block);
-    let error = from.error.or(to.error);
-    ExitCode::from(manners::finish(&mut aside, b"explain", ending, error))
+        |from, to, _| explain_stream::copy(from, to, &mut [0; 131072]),
+    );
+    ExitCode::from(status)
 }

@@ -26,7 +26,7 @@ pub enum Field {
 // What is explained, where there is something to explain.
 #[derive(Clone, Copy)]
 pub enum Explained {
-    // a refusal with this number
+    // a refusal with this number. Stays: (a) `row_broken`, `last_differs` and other theorems speak of an explanation by its number
     Found {
         number: u8,
         field: Field,

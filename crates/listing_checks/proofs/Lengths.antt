@@ -1,68 +1,60 @@
--- The length of the chunk of a listing, in the code's own terms: none for a listing that is not well formed. Assumes nothing.
+-- The length of the chunk of a listing: none for a listing that is not well formed. Assumes nothing.
 use mathlib.Core.Path.{◌≡◌, refl, sym, ap, ap₂, ◌∙◌}
 use mathlib.Core.Bool.{Bool, true, false, cond, ◌&&◌}
 use mathlib.Core.List.{List, flat_map}
-use Prim.Native.Nat.{ℕ, zero, suc, ◌+◌, ◌-◌, ◌*◌, ◌≤◌, ◌<◌}
+use Prim.Native.Nat.{ℕ, suc, ◌+◌, ◌-◌, ◌*◌, ◌≤◌, ◌<◌}
 use native.Mathlib.Nat.{add-zero}
 use native.Mathlib.Omega.{arith}
-use borrow.Author.Tests.{eq-eqb, ne_eqb}
-use lib.ListN.{length, get_or, drop, length-append}
+use lib.Dec.{eqb}
+use lib.ListN.{length, get_or, drop, length-append, length-drop}
 use Rattle.std.proofs.Common.{Option, Some, None}
-use Rattle.meaning.specs.Sizes.{chunk_header_bytes, ensemble_bytes, service_bytes, ts_bytes, en_bytes}
+use Rattle.meaning.specs.Sizes.{chunk_header_bytes, ensemble_bytes, service_bytes, ts_bytes}
 use Rattle.meaning.specs.Lists.{Service, ensemble_services, services_of}
 use Rattle.meaning.specs.Listing.{mark_ts}
-use Rattle.meaning.specs.Said.{stands, services_fit, services_said, en_fits, count_said, after_en, after_services, ensembles_fit, ensembles_said, listing_fits, list_said}
+use Rattle.meaning.specs.Said.{stands, services_fit, services_said, en_fits, id_said, count_said, after_en, after_services, ensembles_fit, ensembles_said, listing_fits, list_said}
 use Rattle.meaning.specs.Plain.{plain_length}
 use Rattle.meaning.proofs.Counts.{length-services_said}
 use Rattle.listing_checks.specs.Lengths.{ensembles_length}
-use Rattle.listing_checks.proofs.Checks.{ensembles_tests, ensembles_none, count_at, after, after_at}
+use Rattle.listing_checks.proofs.Checks.{behind, records_said, next, next_is, records_there, ensembles_next, ensembles_none}
 
--- ---- the bytes of n ensembles from the place at on, the first of them with k services
-
-module _ (xs : List ℕ) (at : ℕ) where
-  ensembles_next : (n k : ℕ) → 0 < n → k ≡ count_said (drop at xs) → ensembles_length n (drop at xs) ≡ ensemble_bytes + service_bytes * k + ensembles_length (n - 1) (drop (after at k) xs)
-  unfolding ensembles_said flat_map
-  ensembles_next zero k some is = absurd (omega arith)
-  ensembles_next (suc n) k some is =
-      let ys : List ℕ = drop at xs in
-      let one : suc n - 1 ≡ n = omega arith in
-      let own : List Service = services_said (count_said ys) (after_en ys) in
-      let rest : List Service = flat_map ensemble_services (ensembles_said n (after_services ys)) in
-      rw (one, sym (after_at xs at k is)) (omega (arith, is, length-append own rest, length-services_said (count_said ys) (after_en ys)))
-
-  no_ensembles : (n : ℕ) → n ≤ 0 → ensembles_length n (drop at xs) ≡ 0
-  unfolding ensembles_said flat_map
-  no_ensembles zero none = refl
-  no_ensembles (suc n) none = absurd (omega arith)
-
--- ---- one ensemble after the other: n from the place at on, up to the end of the listing, with s bytes before them
+-- ---- one ensemble after the other: those that are left of n after i of them, up to the end of the listing, with s bytes before them
 
 abbrev pub length_with : ℕ → ℕ → List ℕ → Option ℕ
 length_with s n ys = cond (ensembles_fit n ys) (Some (s + ensembles_length n ys)) None
 
-pub length_unfit : (s n : ℕ) (ys : List ℕ) → ensembles_fit n ys ≡ false → None ≡ length_with s n ys
-length_unfit s n ys h = sym (ap (λ (t : Bool). cond t (Some (s + ensembles_length n ys)) None) h)
+module _ (n i s : ℕ) (ys : List ℕ) where
+  module _ (more : i < n) where
+    pub unfit_ensemble : en_fits ys ≡ false → None ≡ length_with s (n - i) ys
+    unfit_ensemble e = sym (ap (λ (t : Bool). cond t (Some (s + ensembles_length (n - i) ys)) None) (ensembles_next n i ys more ∙ ap₂ ◌&&◌ e refl))
 
-module _ (xs : List ℕ) (at n : ℕ) where
-  pub length_next : (s : ℕ) → let k = get_or xs (at + 5) 0 in 0 < n → en_fits (drop at xs) ≡ true → services_fit (get_or xs (at + 2) 0) k (drop (at + en_bytes) xs) ≡ true → length_with (s + (ensemble_bytes + service_bytes * k)) (n - 1) (drop (after at k) xs) ≡ length_with s n (drop at xs)
-  length_next s some fit own =
-      let k : ℕ = get_or xs (at + 5) 0 in
-      let rest : ℕ = ensembles_length (n - 1) (drop (after at k) xs) in
-      let long : s + (ensemble_bytes + service_bytes * k) + rest ≡ s + ensembles_length n (drop at xs) = omega (arith, ensembles_next xs at n k some (sym (count_at xs at))) in
-      ap₂ (λ (t : Bool) (m : ℕ). cond t (Some m) None) (sym (ensembles_tests xs at n some ∙ ap₂ ◌&&◌ fit (ap₂ ◌&&◌ own refl))) long
+    module _ (fit : en_fits ys ≡ true) where
+      pub unfit_services : services_fit (id_said ys) (count_said ys) (after_en ys) ≡ false → None ≡ length_with s (n - i) ys
+      unfit_services e = sym (ap (λ (t : Bool). cond t (Some (s + ensembles_length (n - i) ys)) None) (ensembles_next n i ys more ∙ ap₂ ◌&&◌ fit (ap₂ ◌&&◌ e refl)))
 
-  module _ (s : ℕ) (none : n ≤ 0) (inside : at ≤ length xs) where
-    pub length_more : (length xs ≡ at → ⊥) → None ≡ length_with s n (drop at xs)
-    length_more h =
-        let more : length xs - at ≡ 0 → ⊥ = λ z. h (omega arith) in
-        length_unfit s n (drop at xs) (ensembles_none xs at n none ∙ ne_eqb _ _ more)
+      longer : ensembles_length (n - i) ys ≡ ensemble_bytes + service_bytes * count_said ys + ensembles_length (n - (i + 1)) (after_services ys)
+      unfolding ensembles_said flat_map
+      longer =
+          let left : n - i ≡ suc (n - (i + 1)) = omega arith in
+          let own : List Service = services_said (count_said ys) (after_en ys) in
+          let rest : List Service = flat_map ensemble_services (ensembles_said (n - (i + 1)) (after_services ys)) in
+          rw left (omega (arith, length-append own rest, length-services_said (count_said ys) (after_en ys)))
 
-    pub length_ends : length xs ≡ at → Some s ≡ length_with s n (drop at xs)
-    length_ends h =
-        let end : length xs - at ≡ 0 = omega arith in
-        sym
-        (ap₂ (λ (t : Bool) (m : ℕ). cond t (Some (s + m)) None) (ensembles_none xs at n none ∙ eq-eqb _ _ end) (no_ensembles xs at n none)
-        ∙ ap Some (add-zero s))
+      pub length_stays : (b : ℕ) → services_fit (id_said ys) (count_said ys) (after_en ys) ≡ true → s + length ys ≤ b → s + (ensemble_bytes + service_bytes * count_said ys) + length (next ys) ≤ b
+      length_stays b own h =
+          omega (arith, records_there ys fit own, ap length (behind (records_said ys) ys), length-drop (records_said ys) ys)
+
+      pub length_next : services_fit (id_said ys) (count_said ys) (after_en ys) ≡ true → length_with (s + (ensemble_bytes + service_bytes * count_said ys)) (n - (i + 1)) (next ys) ≡ length_with s (n - i) ys
+      length_next own =
+          ap (length_with (s + (ensemble_bytes + service_bytes * count_said ys)) (n - (i + 1))) (next_is ys)
+          ∙ (let long : s + (ensemble_bytes + service_bytes * count_said ys) + ensembles_length (n - (i + 1)) (after_services ys) ≡ s + ensembles_length (n - i) ys = omega (arith, longer) in
+          ap₂ (λ (t : Bool) (m : ℕ). cond t (Some m) None) (sym (ensembles_next n i ys more ∙ ap₂ ◌&&◌ fit (ap₂ ◌&&◌ own refl))) long)
+
+  pub length_ends : n ≤ i → length_with s (n - i) ys ≡ cond (eqb (length ys) 0) (Some s) None
+  unfolding ensembles_said flat_map
+  length_ends past =
+      let none : n - i ≡ 0 = omega arith in
+      let end : s + ensembles_length (n - i) ys ≡ s = rw none (add-zero s) in
+      ap₂ (λ (t : Bool) (m : ℕ). cond t (Some m) None) (ensembles_none n i ys past) end
 
 -- ---- the chunk
 

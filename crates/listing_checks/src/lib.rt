@@ -1,10 +1,10 @@
 // The writer's checks on a listing, that write nothing.
 #![tactic(auto)]
 
-ghost use Rattle.std.specs.Prelude.{◌≡◌, cond, Some, None, ◌+◌, ◌≤◌, length, drop};
+ghost use Rattle.std.specs.Prelude.{◌≡◌, cond, Some, None, ◌+◌, ◌≤◌, length};
 ghost use Rattle.records.specs.Records.{mark_bytes};
 ghost use Rattle.meaning.specs.Sizes.{chunk_header_bytes, sv_bytes};
-ghost use Rattle.meaning.specs.Said.{marked as Said·marked, stands as Said·stands, sv_fits, services_fit, en_fits, ensembles_fit, listing_fits, list_said};
+ghost use Rattle.meaning.specs.Said.{stands as Said·stands, sv_fits, services_fit, en_fits, ensembles_fit, listing_fits, list_said};
 ghost use Rattle.meaning.specs.Plain.{plain_length};
 ghost use Rattle.listing_checks.specs.Lengths.{ensembles_length};
 
@@ -13,120 +13,78 @@ use meaning::{
     MOST_STATUS, SERVICE_BYTES, SV_BYTES, TS_BYTES,
 };
 
-// Whether this mark is at a place of the listing, which has room for one there.
-fn marked(listing: &[u8], at: usize, mark: [u8; 2]) -> bool
-    requires { at + mark_bytes ≤ length listing.now }
-    ensures { result ≡ Said·marked mark (drop at listing.now) }
+// Whether a record of so many bytes with this mark stands at the start of these.
+fn stands(bytes: &[u8], size: usize, mark: [u8; 2]) -> bool
+    requires { mark_bytes ≤ size }
+    ensures { result ≡ Said·stands mark size bytes.now }
 {
-    if listing[at] != mark[0] {
-        return false;
-    }
-    listing[at + 1] == mark[1]
+    size <= bytes.len() && bytes.starts_with(&mark)
 }
 
-// Whether a record of so many bytes with this mark stands at a place of the listing.
-fn stands(listing: &[u8], at: usize, size: usize, mark: [u8; 2]) -> bool
-    requires { (at ≤ length listing.now) × (mark_bytes ≤ size) }
-    ensures { result ≡ Said·stands mark size (drop at listing.now) }
+// Whether a service's record, of the ensemble with this id, stands at the start of these bytes, which have room for one.
+#[tactic(auto, unfolding(meaning::specs::Said::sv_fits))]
+fn service_fits(record: &[u8], ensemble: u8) -> bool
+    requires { sv_bytes ≤ length record.now }
+    ensures { result ≡ sv_fits ensemble record.now }
 {
-    if listing.len() - at < size {
-        return false;
-    }
-    marked(listing, at, mark)
+    record.starts_with(b"SV")
+        && record[2] == ensemble
+        && record[5] <= MOST_MULTI
+        && record[6] <= MOST_STATUS
+        && record[7] <= MOST_SP
 }
 
-// Whether a service's record, of the ensemble with this id, stands at a place of the listing, which has room for one there.
-fn service_fits(listing: &[u8], at: usize, ensemble: u8) -> bool
-    requires { at + sv_bytes ≤ length listing.now }
-    ensures { result ≡ sv_fits ensemble (drop at listing.now) }
-{
-    if !marked(listing, at, *b"SV") {
-        return false;
-    }
-    let own = listing[at + 2];
-    if own != ensemble {
-        return false;
-    }
-    if MOST_MULTI < listing[at + 5] {
-        return false;
-    }
-    if MOST_STATUS < listing[at + 6] {
-        return false;
-    }
-    listing[at + 7] <= MOST_SP
-}
-
-// Whether the records of count services, of the ensemble with this id, stand from a place of the listing on.
-fn services_fit(listing: &[u8], from: usize, ensemble: u8, count: u8) -> bool
-    requires { from ≤ length listing.now }
-    ensures { result ≡ services_fit ensemble count (drop from listing.now) }
+// Whether the records of count services, of the ensemble with this id, stand at the start of these bytes.
+fn services_fit(records: &[u8], ensemble: u8, count: u8) -> bool
+    ensures { result ≡ services_fit ensemble count records.now }
 {
     // one test of the length for all of them
-    if listing.len() - from < SV_BYTES * count as usize {
+    if records.len() < SV_BYTES * count as usize {
         return false;
     }
-    let mut at = from;
-    let mut left = count;
-    while 0 < left {
-        if !service_fits(listing, at, ensemble) {
+    for i in 0..count as usize {
+        if !service_fits(&records[SV_BYTES * i..], ensemble) {
             return false;
         }
-        at += SV_BYTES;
-        left -= 1;
     }
     true
 }
 
-// Whether an ensemble's record stands at a place of the listing.
-fn ensemble_fits(listing: &[u8], at: usize) -> bool
-    requires { at ≤ length listing.now }
-    ensures { result ≡ en_fits (drop at listing.now) }
+// Whether an ensemble's record stands at the start of these bytes.
+#[tactic(auto, unfolding(meaning::specs::Said::en_fits))]
+fn ensemble_fits(record: &[u8]) -> bool
+    ensures { result ≡ en_fits record.now }
 {
-    if !stands(listing, at, EN_BYTES, *b"EN") {
-        return false;
-    }
-    if MOST_FLAGS < listing[at + 3] {
-        return false;
-    }
-    listing[at + 4] <= MOST_CHANNEL
+    stands(record, EN_BYTES, *b"EN") && record[3] <= MOST_FLAGS && record[4] <= MOST_CHANNEL
 }
 
-// The length of a chunk with the count ensembles whose records stand, with their services', from a place of the listing on and up to its end;
-// none if they do not stand there.
-fn ensembles_length(listing: &[u8], from: usize, count: usize) -> Option<usize>
-    requires { from ≤ length listing.now }
-    ensures { result ≡ cond (ensembles_fit count (drop from listing.now)) (Some (chunk_header_bytes + ensembles_length count (drop from listing.now))) None }
+// The length of a chunk with the count ensembles whose records, with their services', are these bytes; none if they are not.
+#[tactic(auto, using(meaning::proofs::Counts::en_room, meaning::proofs::Counts::services_room_lem))]
+fn ensembles_length(records: &[u8], count: u8) -> Option<usize>
+    ensures { result ≡ cond (ensembles_fit count records.now) (Some (chunk_header_bytes + ensembles_length count records.now)) None }
 {
-    let mut at = from;
-    let mut left = count;
+    let mut rest = records;
     let mut length = CHUNK_HEADER_BYTES;
-    while 0 < left {
-        if !ensemble_fits(listing, at) {
+    for _ in 0..count {
+        if !ensemble_fits(rest) {
             return None;
         }
-        let id = listing[at + 2];
-        let said = listing[at + 5];
-        let inside = at + EN_BYTES;
-        if !services_fit(listing, inside, id, said) {
+        if !services_fit(&rest[EN_BYTES..], rest[2], rest[5]) {
             return None;
         }
-        let services = said as usize;
-        at = inside + SV_BYTES * services;
+        let services = rest[5] as usize;
         length += ENSEMBLE_BYTES + SERVICE_BYTES * services;
-        left -= 1;
+        rest = &rest[EN_BYTES + SV_BYTES * services..];
     }
-    if listing.len() != at {
-        return None;
-    }
-    Some(length)
+    if rest.is_empty() { Some(length) } else { None }
 }
 
 // The length of the chunk of a listing; none if the listing is not well formed. Internal: the writer calls it.
 pub fn chunk_length(listing: &[u8]) -> Option<usize>
     ensures { result ≡ cond (listing_fits listing.now) (Some (plain_length (list_said listing.now))) None }
 {
-    if !stands(listing, 0, TS_BYTES, *b"TS") {
+    if !stands(listing, TS_BYTES, *b"TS") {
         return None;
     }
-    ensembles_length(listing, TS_BYTES, listing[4] as usize)
+    ensembles_length(&listing[TS_BYTES..], listing[4])
 }

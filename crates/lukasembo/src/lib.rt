@@ -201,14 +201,14 @@ fn pack_wrapped(values: wrapper::Values, timestamp: u32) -> u64
 }
 
 // What a call gave, as the caller gets it.
-fn pack_given(answer: Result<usize, wrapper::Refusal>, numbers: wrapper::Numbers) -> Step
-    requires { ((wrapped_values answer).wrote < 65536) × (numbers.size < 65536) × (numbers.left < 65536) × (numbers.begin < 65536) }
-    ensures { (result.answer ≡ packed_wrapped (wrapped_values answer) numbers.timestamp) × (result.numbers ≡ packed_writer numbers) }
+fn pack_given(given: wrapper::Given) -> Step
+    requires { ((wrapped_values given.answer).wrote < 65536) × (given.numbers.size < 65536) × (given.numbers.left < 65536) × (given.numbers.begin < 65536) }
+    ensures { (result.answer ≡ packed_wrapped (wrapped_values given.answer) given.numbers.timestamp) × (result.numbers ≡ packed_writer given.numbers) }
 {
-    let v = wrapper::values_of(answer);
+    let values = wrapper::values_of(given.answer);
     Step {
-        answer: pack_wrapped(v, numbers.timestamp),
-        numbers: pack_writer(numbers),
+        answer: pack_wrapped(values, given.numbers.timestamp),
+        numbers: pack_writer(given.numbers),
     }
 }
 
@@ -223,22 +223,16 @@ pub fn lukasembo_wrap_step(
 ) -> Step
     ensures { WrapStepSays numbers since left.old packet.now timestamp output.old result.answer result.numbers left.new output.new }
 {
-    let m = unpack_writer(numbers, since);
-    let given = wrapper::wrap(m, left, packet, timestamp, output);
-    let answer = given.answer;
-    let after = given.numbers;
-    pack_given(answer, after)
+    let before = unpack_writer(numbers, since);
+    pack_given(wrapper::wrap(before, left, packet, timestamp, output))
 }
 
 // Closes: what is left, if anything, goes to the start of the output.
 pub fn lukasembo_close_step(numbers: u64, since: u32, left: &[u8; 1400], output: &mut [u8]) -> Step
     ensures { CloseStepSays numbers since left.now output.old result.answer result.numbers output.new }
 {
-    let m = unpack_writer(numbers, since);
-    let given = wrapper::close(m, left, output);
-    let answer = given.answer;
-    let after = given.numbers;
-    pack_given(answer, after)
+    let before = unpack_writer(numbers, since);
+    pack_given(wrapper::close(before, left, output))
 }
 
 // ---- the guide
@@ -312,6 +306,7 @@ pub struct Explanation {
     pub value: u64,
 }
 
+// Stays: (a) numbers of the C interface, as lukasembo.h has them; a `From` would belong to `fields`, which knows nothing of C.
 fn table_number(table: Table) -> u8
     ensures value { result ≡ table_number table }
     ensures upper_bound { result ≤ 0x40 }
@@ -342,12 +337,14 @@ fn pack_explained(explained: Option<Explained>) -> Explanation
             answer: 0,
             value: 0,
         },
-        Some(Explained::Found {
-            number,
-            field,
-            at,
-            value,
-        }) => {
+        Some(
+            Explained::Found {
+                number,
+                field,
+                at,
+                value,
+            },
+        ) => {
             let low = number as u64 + field_number(field) as u64 * 0x100;
             Explanation {
                 answer: low + at as u64 * 0x100000000,

@@ -1,5 +1,6 @@
 -- What came of a read and of a write, and the status that a program ends with.
 use Rattle.std.specs.Prelude.{ℕ, ◌+◌, ◌≤◌, ◌≡◌, cond, ◌⊎◌, eqb, ℤ, pos, negsuc, Result, Ok, Err, List, length, take}
+use Rattle.std.specs.Fn.{Once}
 use Rattle.manners.specs.declared.Came.{Came}
 use Rattle.manners.specs.declared.Came.TheVariants.{Bytes, End, Failed}
 use Rattle.manners.specs.declared.Sent.{Sent}
@@ -65,3 +66,7 @@ status_of Unheard = 0
 status_of NotRead = failed
 status_of NotWritten = failed
 status_of Spent = failed
+
+-- the status of an ending that a program's work comes to, when it is called
+abbrev pub Worked : {F X Y : Type 0} → Once F X (Ending × Y) → F → ℕ → Type 0
+Worked {X = X} {Y = Y} g work n = (x : X) × (ending : Ending) × (y : Y) × g.post work x (ending, y) × (n ≡ status_of ending)

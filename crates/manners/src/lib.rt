@@ -1,15 +1,15 @@
 // The manners of a program: what it does around its answers, where a read or a write fails, with words, and as it ends.
 #![tactic(auto)]
 
-ghost use Rattle.std.specs.Prelude.{◌≡◌, ◌<◌, length, take, None, Some, IfSome, IfErr, OnOk};
+ghost use Rattle.std.specs.Prelude.{◌≡◌, ◌<◌, ◌⊎◌, length, take, None, Some, IfSome, IfErr, OnOk};
 ghost use Rattle.std.specs.Io.{ReadsAtMost, WritesAtMost};
 ghost use Rattle.std.specs.Io.KnownBytes.{Keeps, Appends, ReadConsumes, WriteAppends};
-ghost use Rattle.manners.specs.Manners.{came_of, bytes_in, sent_of, ended_by, misused, status_of, Counts, Room};
+ghost use Rattle.manners.specs.Manners.{came_of, bytes_in, sent_of, ended_by, misused, status_of, Counts, Room, Worked};
 
 use std::env::FillError;
 use std::fmt::InlineText;
 use std::io;
-use std::io::{Read, Write};
+use std::io::{Read, Stderr, Stdin, Stdout, Write};
 use std::rt::Env;
 
 // What came of a read that had room.
@@ -271,6 +271,34 @@ pub fn has_words<R: Env, W: Write>(rt: &R, to: &mut W, usage: &[u8]) -> Option<u
         return None;
     }
     Some(refuse_words(to, usage))
+}
+
+// Does a program's work, from standard input to standard output, with what there is to report on standard error; its status.
+pub fn run<F>(rt: &HostRuntime, name: &[u8], work: F) -> u8
+where
+    F: FnOnce(&mut Watched<Stdin>, &mut Watched<Stdout>, &mut Watched<Stderr>) -> Ending,
+    requires { F.IsAlwaysCallable work }
+    ensures { Worked F.FnOnce work result }
+{
+    let mut from = Watched::new(rt.stdin());
+    let mut to = Watched::new(rt.stdout());
+    let mut aside = Watched::new(rt.stderr());
+    let ending = work(&mut from, &mut to, &mut aside);
+    let error = from.error.or(to.error).or(aside.error);
+    finish(&mut aside, name, ending, error)
+}
+
+// The same for a program that takes no words.
+pub fn run_wordless<F>(rt: &HostRuntime, name: &[u8], usage: &[u8], work: F) -> u8
+where
+    F: FnOnce(&mut Watched<Stdin>, &mut Watched<Stdout>, &mut Watched<Stderr>) -> Ending,
+    requires { F.IsAlwaysCallable work }
+    ensures { (result ≡ misused) ⊎ Worked F.FnOnce work result }
+{
+    if let Some(status) = has_words(rt, &mut rt.stderr(), usage) {
+        return status;
+    }
+    run(rt, name, work)
 }
 
 // Refuses words that the program does not take, with a line that says how it is used; its status.

@@ -2,4 +2,3 @@ pub mod Laws
 pub mod Stores
 pub mod Sets
 pub mod Tables
-pub mod Starts

@@ -1,18 +1,17 @@
 -- What some bytes are as the start of a packet, case by case; and stored packets. Assumes nothing.
 use mathlib.Core.Path.{◌≡◌, refl, sym, ap, ap₂, subst, ◌∙◌}
-use mathlib.Core.Bool.{Bool, true, false, not, cond, true≢false, and-false, and-eq-true_iff}
+use mathlib.Core.Bool.{Bool, true, false, not, cond, true≢false, and-eq-true_iff}
 use mathlib.Core.List.{List}
-use mathlib.Core.Logic.{◌⊎◌, inl, inr}
-use Prim.Native.Nat.{ℕ, zero, suc, ◌+◌, ◌-◌, ◌≤◌, ◌<◌}
+use Prim.Native.Nat.{ℕ, zero, suc, ◌+◌, ◌≤◌, ◌<◌}
 use native.Mathlib.Omega.{arith}
-use borrow.Author.Tests.{eqb-true, eqb-false, ltb-true, ltb-false, leb-true, eq-eqb, ne_eqb, lt-ltb, le-ltb, le-leb, lt-leb}
+use borrow.Author.Tests.{eqb-true, eqb-false, ltb-true, ltb-false, leb-true, eq-eqb, ne_eqb, lt-ltb, le-ltb, le-leb}
 use lib.Dec.{eqb, ltb, leb}
-use lib.ListN.{length, get_or, take, drop, length-drop}
-use lib.Seq.{get_or-take, get_or-drop, length-take-le, take_all, sets}
+use lib.ListN.{length, get_or, take}
+use lib.Seq.{get_or-take, length-take-le, take_all, sets}
 use Rattle.octets.specs.Checks.{check}
 use Rattle.octets.specs.Word.{word, word_bytes}
 use Rattle.octets.proofs.Stores.{sets_behind}
-use Rattle.octets.proofs.Laws.{either, get_d_there}
+use Rattle.octets.proofs.Laws.{either}
 use Rattle.text.specs.Text.{text}
 use Rattle.packets.specs.declared.Start.{Start}
 use Rattle.packets.specs.declared.Start.TheVariants.{Running, Whole, Fault}
@@ -29,10 +28,6 @@ head-stored l at n m l' put is = is ∙ sets_behind (text "IP") (word_bytes n) l
 pub within : (n : ℕ) → shortest_packet ≤ n → n ≤ longest_packet → within_limits n ≡ true
 within n h g = simp (le-leb shortest_packet n h, le-leb n longest_packet g)
 
-pub without : (n : ℕ) → (n < shortest_packet) ⊎ (longest_packet < n) → within_limits n ≡ false
-without n (inl h) = simp (lt-leb shortest_packet n h)
-without n (inr h) = simp (lt-leb n longest_packet h, and-false)
-
 -- ---- by the number of bytes, the first and the total length
 
 module _ (n first total : ℕ) where
@@ -40,17 +35,11 @@ module _ (n first total : ℕ) where
   start_none e = simp (eq-eqb n 0 e)
 
   module _ (some : n ≡ 0 → ⊥) where
-    pub start-other : (version_of first ≡ ip_version → ⊥) → start_by n first total ≡ Fault
-    start-other e = simp (ne_eqb n 0 some, ne_eqb (version_of first) ip_version e)
-
     module _ (four : version_of first ≡ ip_version) where
       pub start_few : n < telling_bytes → start_by n first total ≡ Running
       start_few h = simp (ne_eqb n 0 some, eq-eqb (version_of first) ip_version four, lt-ltb n telling_bytes h)
 
       module _ (tells : telling_bytes ≤ n) where
-        pub start_without : (total < shortest_packet) ⊎ (longest_packet < total) → start_by n first total ≡ Fault
-        start_without h = simp (ne_eqb n 0 some, eq-eqb (version_of first) ip_version four, le-ltb n telling_bytes tells, without total h)
-
         module _ (least : shortest_packet ≤ total) (most : total ≤ longest_packet) where
           pub start-running : n < total → start_by n first total ≡ Running
           start-running h = simp (ne_eqb n 0 some, eq-eqb (version_of first) ip_version four, le-ltb n telling_bytes tells, within total least most, lt-ltb n total h)
@@ -63,27 +52,6 @@ pub early : (n first total other : ℕ) → n < telling_bytes → start_by n fir
 early n first total other h =
     either (eqb n 0) (λ e. simp e)
     (λ e. either (eqb (version_of first) ip_version) (λ f. simp (e, f, lt-ltb n telling_bytes h)) (λ f. simp (e, f)))
-
--- ---- what stands at a place of some bytes
-
-module _ (xs : List ℕ) (at : ℕ) (n : ℕ) (count : n ≡ length xs - at) where
-  count_there : length (drop at xs) ≡ n
-  count_there = length-drop at xs ∙ sym count
-
-  pub start_end : n ≡ 0 → start_of (drop at xs) ≡ Running
-  unfolding start_of
-  start_end e = start_none (length (drop at xs)) (get_or (drop at xs) 0 0) (total_length (drop at xs)) (count_there ∙ e)
-
-  pub start_there : (total : ℕ) → total ≡ word (get_or xs (at + 2) 0) (get_or xs (at + 3) 0) → start_of (drop at xs) ≡ start_by n (get_or xs at 0) total
-  unfolding start_of
-  start_there total e =
-      ap (start_by (length (drop at xs)) (get_or (drop at xs) 0 0)) (ap₂ word (get_or-drop at xs 2 0) (get_or-drop at xs 3 0) ∙ sym e)
-      ∙ (λ i. start_by (count_there i) (get_d_there xs at i) total)
-
-  pub start_early : n < telling_bytes → start_of (drop at xs) ≡ start_by n (get_or xs at 0) 0
-  start_early h =
-      let total : ℕ = word (get_or xs (at + 2) 0) (get_or xs (at + 3) 0) in
-      start_there total refl ∙ early n (get_or xs at 0) total 0 h
 
 -- ---- what is known of bytes that are the start of something
 

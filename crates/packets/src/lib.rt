@@ -1,12 +1,13 @@
 // Inner packets: what some bytes are as the start of one; and the bytes before a packet that is stored.
 #![tactic(auto)]
 
-ghost use Rattle.std.specs.Prelude.{◌≡◌, ◌+◌, ◌≤◌, length, drop};
+ghost use Rattle.std.specs.Prelude.{◌≡◌, ◌+◌, ◌≤◌, length};
 ghost use Rattle.std.proofs.lemmas.List.Edits.{sets};
 ghost use Rattle.packets.specs.Packets.{longest_packet, is_carried, start_by, start_of};
 ghost use Rattle.packets.specs.Stored.{stored_head, stored_head_bytes};
 
 // What some bytes are, as the start of a packet.
+// Stays: none of the three refuses a call, no caller passes one up by `?`, and each `match` names all three; `Result<Option<usize>, Fault>` would only be longer.
 #[derive(Clone, Copy)]
 pub enum Start {
     // one that is running, so far right
@@ -41,10 +42,7 @@ pub fn start_by(n: usize, first: u8, total: usize) -> Start
     if n < TELLING_BYTES {
         return Start::Running;
     }
-    if total < SHORTEST_PACKET {
-        return Start::Fault;
-    }
-    if LONGEST_PACKET < total {
+    if total < SHORTEST_PACKET || LONGEST_PACKET < total {
         return Start::Fault;
     }
     if n < total {
@@ -53,30 +51,27 @@ pub fn start_by(n: usize, first: u8, total: usize) -> Start
     Start::Whole(total)
 }
 
-// What stands at a place of some bytes.
-pub fn start_at(bytes: &[u8], at: usize) -> Start
-    requires { at ≤ length bytes.now }
-    ensures { result ≡ start_of (drop at bytes.now) }
+// What some bytes are.
+pub fn start_of(bytes: &[u8]) -> Start
+    ensures { result ≡ start_of bytes.now }
 {
-    let n = bytes.len() - at;
-    if n == 0 {
-        return Start::Running;
+    match bytes {
+        [first, _, third, fourth, ..] => {
+            let total = u16::from_be_bytes([*third, *fourth]);
+            start_by(bytes.len(), *first, total as usize)
+        }
+        [first, ..] => start_by(bytes.len(), *first, 0),
+        [] => Start::Running,
     }
-    if n < TELLING_BYTES {
-        return start_by(n, bytes[at], 0);
-    }
-    let total = octets::word_of(bytes[at + 2], bytes[at + 3]) as usize;
-    start_by(n, bytes[at], total)
 }
 
 // Whether some bytes are a packet that may be carried.
 pub fn is_carried(packet: &[u8]) -> bool
     ensures { result ≡ is_carried packet.now }
 {
-    match start_at(packet, 0) {
+    match start_of(packet) {
         Start::Whole(n) => n == packet.len(),
-        Start::Running => false,
-        Start::Fault => false,
+        Start::Running | Start::Fault => false,
     }
 }
 

@@ -48,19 +48,6 @@ said_silent number repeat gap lost =
     let second = empty-both (repeated repeat) (ws ++ xs) ∙ ap₂ ◌&&◌ (empty_repeated repeat) third in
     empty-both (counted " " number) (repeated repeat ++ (ws ++ xs)) ∙ ap₂ ◌&&◌ (empty-behind (text " ") number (omega arith)) second
 
--- test by test
-pub number-said : (number : ℕ) (repeat : Bool) (gap lost : ℕ) → (number ≡ 0 → ⊥) → false ≡ eqb (length (said number repeat gap lost)) 0
-number-said number repeat gap lost h = rw (said_silent number repeat gap lost, ne_eqb number 0 h)
-
-pub repeat-said : (number : ℕ) (repeat : Bool) (gap lost : ℕ) → number ≡ 0 → repeat ≡ true → false ≡ eqb (length (said number repeat gap lost)) 0
-repeat-said number repeat gap lost e r = rw (said_silent number repeat gap lost, eq-eqb number 0 e, r)
-
-pub gap-said : (number : ℕ) (repeat : Bool) (gap lost : ℕ) → number ≡ 0 → repeat ≡ false → (gap ≡ 0 → ⊥) → false ≡ eqb (length (said number repeat gap lost)) 0
-gap-said number repeat gap lost e r h = rw (said_silent number repeat gap lost, eq-eqb number 0 e, r, ne_eqb gap 0 h)
-
-pub lost-said : (number : ℕ) (repeat : Bool) (gap lost : ℕ) → number ≡ 0 → repeat ≡ false → gap ≡ 0 → eqb lost 0 ≡ eqb (length (said number repeat gap lost)) 0
-lost-said number repeat gap lost e r h = rw (said_silent number repeat gap lost, eq-eqb number 0 e, r, eq-eqb gap 0 h)
-
 -- ---- lengths
 
 pub length-behind : (word : List ℕ) (n : ℕ) → n < 2 ^ 64 → length (behind word n) ≤ length word + 20

@@ -12,26 +12,15 @@ pub const LONGEST_REPORT: usize = 128;
 pub fn next_count(n: u64) -> u64
     ensures { result ≡ following n }
 {
-    if n == u64::MAX {
-        return 0;
-    }
-    n + 1
+    n.wrapping_add(1)
 }
 
 // Whether there is nothing to say.
+#[tactic(auto, using(crate::proofs::Laws::said_silent))]
 fn is_silent(number: u8, repeat: bool, gap: u16, lost: usize) -> bool
     ensures { result ≡ eqb (length (said number repeat gap lost)) 0 }
 {
-    if number != 0 {
-        return false;
-    }
-    if repeat {
-        return false;
-    }
-    if gap != 0 {
-        return false;
-    }
-    lost == 0
+    number == 0 && !repeat && gap == 0 && lost == 0
 }
 
 // Puts a number behind a word, where it is not 0.

@@ -1,15 +1,14 @@
 -- What one call leaves, in any state: the numbers exactly when their checks fail, the outer packets and their lengths, what is left. Assumes nothing.
 use mathlib.Core.Path.{◌≡◌, refl, sym, ap, ◌∙◌}
-use mathlib.Core.Bool.{Bool, true, false, not, cond}
+use mathlib.Core.Bool.{Bool, true, false, not, cond, ◌&&◌}
 use mathlib.Core.List.{List, [], flat_map, append-nil}
-use Rattle.std.proofs.Common.{Result}
+use Rattle.std.proofs.Common.{Result, Ok, Err}
 use Prim.Native.Nat.{ℕ, zero, suc, ◌+◌, ◌*◌, ◌/◌, ◌≤◌, ◌<◌}
 use native.Mathlib.Nat.{div-mul-le_self}
 use native.Mathlib.Omega.{arith}
-use borrow.Author.Tests.{ltb-false, eqb-false}
+use borrow.Author.Tests.{ltb-false, eqb-false, le-ltb}
 use lib.Dec.{ltb, eqb}
 use lib.ListN.{length, take, drop, length-append, length-drop}
-use lib.Seq.{length-take-le}
 use Rattle.octets.specs.Checks.{check}
 use Rattle.octets.proofs.Laws.{either}
 use Rattle.octets.proofs.Stores.{drop-sets}
@@ -21,11 +20,11 @@ use Rattle.tunnel.proofs.Results.{take_put}
 use Rattle.wrapper.specs.declared.Numbers.{Numbers}
 use Rattle.wrapper.specs.declared.Refusal.{Refusal}
 use Rattle.wrapper.specs.declared.Refusal.TheVariants.{ShortOutput, BadSize, NotCarried}
-use Rattle.wrapper.specs.Wrap.{most_size, most_wrapped, is_size, Writer, writer, left_by, Waiting, waiting_in, joined, running, outer_of, outers_of, rest_of, wrapped_values, Outcome, unchanged, given, giving, full_in, wrapped, last_of, closed, Leaves}
+use Rattle.wrapper.specs.Wrap.{most_size, most_wrapped, is_size, Writer, writer, left_by, Waiting, waiting_in, joined, running, outer_of, outers_of, rest_of, wrapped_values, Outcome, unchanged, given, giving, full_in, filled_in, last_in, wrapped, last_of, closed, Leaves}
 use Rattle.wrapper.proofs.Laws.{refusal_within, size-within, left_less, begin_most}
 use Rattle.wrapper.proofs.Outers.{length-outer_of}
 use Rattle.wrapper.proofs.Later.{length-line-outers}
-use Rattle.wrapper.proofs.Answers.{wrote_most}
+use Rattle.wrapper.proofs.Answers.{wrote_most, by_filled, wrapped_is, by_last, closed_is}
 use Rattle.round_trip.specs.Calls.{Same, EndToEnd, Full, Last}
 use Rattle.round_trip.proofs.Lengths.{outers_full, none_left, waits_less}
 
@@ -148,38 +147,30 @@ module _ (w : Writer) (output : List ℕ) where
 
   -- ---- the numbers, each exactly when its check comes first
 
-  giving-number : (a b : Bool) (outers : List (List ℕ)) (v : Waiting) → (wrapped_values (check (not a) (unchanged w output BadSize) (check (not b) (unchanged w output NotCarried) (giving w output outers v))).answer).number ≡ check (not a) 18 (check (not b) 19 (check (ltb (length output) (length (line outers))) 1 0))
-  unfolding giving
-  giving-number false b outers v = refl
-  giving-number true false outers v = refl
-  giving-number true true outers v = either (ltb (length output) (length (line outers))) (λ e. rw e refl) (λ e. rw e refl)
-
   module _ (memory : length w.bytes ≡ most_size) where
-    left_length : is_size size ≡ true → length (waiting_in w).bytes ≡ left_by w.numbers
-    left_length s =
-        let within = size-within size s in
-        length-take-le (left_by w.numbers) w.bytes (omega (arith, memory, left_less w.numbers (omega (arith, within.0)), within.1))
+    last_number : (a z : Bool) (n left : ℕ) → (wrapped_values (by_last w output memory (check (not a) (Err BadSize) (check (not z && ltb (length output) n) (Err ShortOutput) (Ok left)))).answer).number ≡ check (not a) 18 (check (ltb (length output) (cond z 0 n)) 1 0)
+    last_number false z n left = refl
+    last_number true true n left = rw (le-ltb (length output) 0 (omega arith)) refl
+    last_number true false n left = either (ltb (length output) n) (λ l. rw l refl) (λ l. rw l refl)
 
     pub close-number_exactly : (wrapped_values (closed w output).answer).number ≡ check (not (is_size size)) 18 (check (ltb (length output) (cond (eqb (left_by w.numbers) 0) 0 (header_bytes + left_by w.numbers))) 1 0)
-    unfolding closed
+    unfolding last_in
     close-number_exactly =
-        giving-number (is_size size) true last nothing
-        ∙ either (is_size size) (λ t. ap (λ (n : ℕ). check (not (is_size size)) 18 (check (ltb (length output) n) 1 0)) (last_length (waiting_in w) ∙ ap (λ (n : ℕ). cond (eqb n 0) 0 (header_bytes + n)) (left_length t)))
-        (λ t. rw t refl)
+        ap (λ (u : Outcome). (wrapped_values u.answer).number) (closed_is w output memory)
+        ∙ last_number (is_size size) (eqb (left_by w.numbers) 0) (header_bytes + left_by w.numbers) (left_by w.numbers)
 
-    filled-length : (packet : List ℕ) (timestamp : ℕ) → is_size size ≡ true → length (line (filled packet timestamp)) ≡ (left_by w.numbers + length packet) / size * (header_bytes + size)
-    filled-length packet timestamp s =
-        let v : Waiting = waiting_with packet timestamp in
-        length-line-outers (full_in w v) size w.numbers.next timestamp v (div-mul-le_self (length v.bytes) size)
-        ∙ ap (λ (n : ℕ). n / size * (header_bytes + size)) (length-append (waiting_in w).bytes packet ∙ ap (λ (n : ℕ). n + length packet) (left_length s))
+    module _ (packet : List ℕ) (timestamp : ℕ) where
+      filled_number : (a b c : Bool) (full : ℕ) → (wrapped_values (by_filled w output packet timestamp memory (check (not a) (Err BadSize) (check (not b) (Err NotCarried) (check c (Err ShortOutput) (Ok full))))).answer).number ≡ check (not a) 18 (check (not b) 19 (check c 1 0))
+      filled_number false b c full = refl
+      filled_number true false c full = refl
+      filled_number true true true full = refl
+      filled_number true true false full = refl
 
-    pub write-number_exactly : (packet : List ℕ) (timestamp : ℕ) → (wrapped_values (wrapped w output packet timestamp).answer).number ≡ check (not (is_size size)) 18 (check (not (is_carried packet)) 19 (check (ltb (length output) ((left_by w.numbers + length packet) / size * (header_bytes + size))) 1 0))
-    unfolding wrapped
-    write-number_exactly packet timestamp =
-        giving-number (is_size size) (is_carried packet) (filled packet timestamp) (unfilled packet timestamp)
-        ∙ either (is_size size)
-        (λ t. ap (λ (n : ℕ). check (not (is_size size)) 18 (check (not (is_carried packet)) 19 (check (ltb (length output) n) 1 0))) (filled-length packet timestamp t))
-        (λ t. rw t refl)
+      pub write-number_exactly : (wrapped_values (wrapped w output packet timestamp).answer).number ≡ check (not (is_size size)) 18 (check (not (is_carried packet)) 19 (check (ltb (length output) ((left_by w.numbers + length packet) / size * (header_bytes + size))) 1 0))
+      unfolding filled_in
+      write-number_exactly =
+          ap (λ (u : Outcome). (wrapped_values u.answer).number) (wrapped_is w output packet timestamp memory)
+          ∙ filled_number (is_size size) (is_carried packet) (ltb (length output) ((left_by w.numbers + length packet) / size * (header_bytes + size))) _
 
 -- ---- how great the numbers are
 

@@ -14,10 +14,7 @@ pub fn is_plain(kind: u8, packet: &[u8]) -> bool
         return false;
     }
     // version 2, and all else of the first byte 0
-    if packet[0] != 128 {
-        return false;
-    }
-    packet[1] % 128 == kind
+    packet[0] == 128 && packet[1] % 128 == kind
 }
 
 // The marker of a packet with a header.
@@ -33,5 +30,5 @@ pub fn sequence_of(packet: &[u8]) -> u16
     requires { header_bytes ≤ length packet.now }
     ensures { result ≡ sequence_in packet.now }
 {
-    octets::word_of(packet[2], packet[3])
+    u16::from_be_bytes([packet[2], packet[3]])
 }

@@ -75,6 +75,68 @@ fn tell<R: Eprint>(rt: &R, name: &str, error: io::Error) {
     let _ = rt.eprintln(format_args!("{name}: {words}"));
 }
 
+// Runs something on each stored file that the arguments name.
+pub fn each<R: Env, F: FnMut(&str)>(rt: &R, mut run: F)
+    requires { F.IsAlwaysCallable run }
+{
+    for index in 1..64 {
+        let mut memory = [0u8; 4096];
+        match named(rt, index, &mut memory) {
+            Some(name) => run(name),
+            None => return,
+        }
+    }
+}
+
+// Prints what a program puts out for a stored file that it reads through blocks of this size, and the status.
+pub fn print<R, W, F>(rt: &R, to: &mut W, name: &str, blocks: u64, copy: F)
+where
+    R: Files + Eprint,
+    W: Write,
+    F: FnOnce(&mut Stored<R::File>, &mut W) -> Ending,
+    requires { F.IsAlwaysCallable copy }
+{
+    let mut file = open(rt, to, name, blocks, b"\n");
+    if file.is_open() {
+        let ending = copy(&mut file, to);
+        end(to, ending);
+    }
+}
+
+// The same for a program of two channels, each run by itself: the packets, then the report and the status. What is not printed goes nowhere.
+pub fn print_both<R, W, F, G>(
+    rt: &R,
+    to: &mut W,
+    size: Option<&str>,
+    name: &str,
+    blocks: u64,
+    packets: F,
+    report: G,
+) where
+    R: Files + Eprint,
+    W: Write,
+    F: FnOnce(&mut Stored<R::File>, &mut W) -> Ending,
+    G: FnOnce(&mut Stored<R::File>, &mut W) -> Ending,
+    requires packets { F.IsAlwaysCallable packets }
+    requires report { G.IsAlwaysCallable report }
+{
+    say_size(to, size);
+    let mut file = open(rt, to, name, blocks, b": packets\n");
+    packets(&mut file, to);
+    say(to, b"\n");
+    say_size(to, size);
+    let mut again = open(rt, to, name, blocks, b": report\n");
+    let ending = report(&mut again, to);
+    end(to, ending);
+}
+
+// Says the payload size that was given, if one was.
+fn say_size<W: Write>(to: &mut W, size: Option<&str>) {
+    if let Some(word) = size {
+        let _ = write!(to, "size {word}, ");
+    }
+}
+
 // Says the status of a program that ended so.
 pub fn end<W: Write>(to: &mut W, ending: Ending) {
     let status = manners::status_of(ending);

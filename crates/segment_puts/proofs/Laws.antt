@@ -48,7 +48,7 @@ module _ (k : Kind) (last : ℕ) (o : List ℕ) where
       record { some = omega arith; size = refl; pieces = refl; done = rw none refl }
 
   module _ (room : segment_bytes * (last + 1) ≤ length o) where
-    pub moving_next : (x m : List ℕ) (n : ℕ) → 0 < n → Moving x n → m ≡ sets x (segment_bytes * (n - 1)) (segment_laid k last x (n - 1)) → Moving m (n - 1)
+    moving_next : (x m : List ℕ) (n : ℕ) → 0 < n → Moving x n → m ≡ sets x (segment_bytes * (n - 1)) (segment_laid k last x (n - 1)) → Moving m (n - 1)
     unfolding flat_map up_from
     moving_next x m n more h put =
         let i : ℕ = n - 1 in
@@ -79,6 +79,14 @@ module _ (k : Kind) (last : ℕ) (o : List ℕ) where
               ∙ ap (λ (j : ℕ). (segment_laid k last o i ++ segments_laid k last o j (last + 1 - n)) ++ rest) next
               ∙ ap (λ (j : ℕ). segments_laid k last o i j ++ rest) (sym count);
         }
+
+    -- as the code counts them: i were moved
+    pub moving_on : (x m : List ℕ) (i : ℕ) → i < last + 1 → Moving x (last + 1 - i) → m ≡ sets x (segment_bytes * (last - i)) (segment_laid k last x (last - i)) → Moving m (last + 1 - (i + 1))
+    moving_on x m i more h put =
+        let this : last - i ≡ last + 1 - i - 1 = omega arith in
+        let next : last + 1 - (i + 1) ≡ last + 1 - i - 1 = omega arith in
+        subst (Moving m) (sym next)
+        (moving_next x m (last + 1 - i) (omega arith) h (put ∙ ap (λ (j : ℕ). sets x (segment_bytes * j) (segment_laid k last x j)) this))
 
     pub moving_ends : (x : List ℕ) (n : ℕ) → n ≤ 0 → Moving x n → x ≡ sets o 0 (segments_laid k last o 0 (last + 1))
     moving_ends x zero z h =

@@ -27,9 +27,7 @@ pub fn move_segments(kind: Kind, last: u8, out: &mut [u8])
     requires { (last < most_segments) × (segment_bytes * (last + 1) ≤ length out.old) }
     ensures { out.new ≡ sets out.old 0 (segments_laid kind last out.old 0 (last + 1)) }
 {
-    let mut left = last + 1;
-    while 0 < left {
-        left -= 1;
-        move_segment(kind, last, left, out);
+    for i in 0..last + 1 {
+        move_segment(kind, last, last - i, out);
     }
 }

@@ -19,7 +19,7 @@ use Rattle.records.proofs.Counted.{whole_counted, counted_entry, whole_marked}
 use Rattle.packets.specs.Packets.{shortest_packet, longest_packet, Carried}
 use Rattle.packets.specs.Stored.{stored_head_bytes, stored_packet, stored}
 use Rattle.std.specs.Prelude.{Some, None, Ok, Err}
-use Rattle.store.specs.Store.{store_form, Next, next_by, next_in, packet_by, packet_place, packet_in, Kept, kept_from, kept_up_to, kept_in}
+use Rattle.store.specs.Store.{store_form, Next, next_by, next_in, packet_by, packet_in, Kept, kept_from, kept_up_to, kept_in}
 
 -- ---- what stands at the start of a store
 
@@ -57,7 +57,7 @@ pub packet_means : (xs : List ℕ) (n : ℕ) → next_in xs ≡ Ok (Some n) → 
 unfolding next_in
 packet_means xs n is = subst (Means xs) is (by_means xs (entry_in store_form xs) refl)
 
--- ---- the packet at a place of a store, as the code takes it: its bytes, and their offset in the memory by that of the store
+-- ---- the packet at a place of a store, as the code takes it
 
 module _ (store : List ℕ) (at n : ℕ) (stands : Ok (Some n) ≡ next_in (drop at store)) where
   pub packet_room : at + stored_head_bytes + n ≤ length store
@@ -67,12 +67,6 @@ module _ (store : List ℕ) (at n : ℕ) (stands : Ok (Some n) ≡ next_in (drop
   packet_there =
       let count : at + stored_head_bytes + n - (at + stored_head_bytes) ≡ n = omega arith in
       ap₂ take count (sym (drop-drop stored_head_bytes at store)) ∙ ap (λ (e : Next). packet_by e (drop at store)) stands
-
-  pub packet_place_lem : (offset : ℕ) → at + stored_head_bytes + offset ≡ offset + packet_place (next_in (drop at store)) at
-  packet_place_lem offset = omega (arith, ap (λ (e : Next). packet_place e at) stands)
-
-pub none_place : (store : List ℕ) (at offset : ℕ) {e : Next} → e ≡ next_in (drop at store) → packet_place e at ≡ 0 → offset ≡ offset + packet_place (next_in (drop at store)) at
-none_place store at offset stands none = omega (arith, ap (λ (e : Next). packet_place e at) stands)
 
 -- ---- the packets of a store, one after the other; any number above the length gives the same
 

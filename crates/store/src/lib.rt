@@ -25,7 +25,7 @@ impl From<Broken> for u8 {
 // The mark of a stored packet, and the number that its two bytes say.
 const IP: [u8; 2] = *b"IP";
 
-// Stays: a constant's value may not call `u16::from_be_bytes`.
+// Stays: tried with `u16::from_be_bytes`, but a constant's value may not call a function (unsupported-constant-expression).
 pub const PACKET_MARK: u16 = IP[0] as u16 * 256 + IP[1] as u16;
 
 // What a mark of a store tells.

@@ -30,31 +30,16 @@ pub fn say_kind<W: Write>(to: &mut W, kind: Kind) {
     }
 }
 
-fn wide(byte: u8) -> u64 {
-    byte as u64
-}
-
 // The first bytes of a buffer, in hex.
 pub fn say_hex<W: Write>(to: &mut W, buffer: &[u8], length: usize) {
-    let mut i = 0;
-    while i < length {
-        if i < buffer.len() {
-            let _ = write!(to, "{:02x}", wide(buffer[i]));
-        }
-        i += 1;
+    for byte in buffer.iter().take(length) {
+        let _ = write!(to, "{byte:02x}");
     }
 }
 
 // Whether the bytes from a place on are all the one that was there before.
 pub fn kept(buffer: &[u8], from: usize, before: u8) -> bool {
-    let mut i = from;
-    while i < buffer.len() {
-        if buffer[i] != before {
-            return false;
-        }
-        i += 1;
-    }
-    true
+    buffer.iter().skip(from).all(|&byte| byte == before)
 }
 
 // Says so, and ends the line.

@@ -1,14 +1,14 @@
 -- An accepted outer packet: what the code's numbers are, and what they leave. Assumes nothing.
-use mathlib.Core.Path.{◌≡◌, refl, sym, ap, ap₂, subst, ◌∙◌}
+use mathlib.Core.Path.{◌≡◌, refl, sym, ap, subst, ◌∙◌}
 use mathlib.Core.Bool.{Bool, true, false, cond, ◌&&◌, true≢false}
 use mathlib.Core.List.{List, []}
 use Prim.Native.Nat.{ℕ, ◌+◌, ◌-◌, ◌≤◌}
 use native.Mathlib.Nat.{zero-add}
 use native.Mathlib.Omega.{arith}
-use borrow.Author.Tests.{leb-false, leb-true, le-leb, lt-leb}
+use borrow.Author.Tests.{leb-false}
 use lib.Dec.{eqb, leb}
 use lib.ListN.{length, take, length-take, length-drop}
-use lib.Seq.{take-length, take-take, length-take-le}
+use lib.Seq.{take-length, take-take, take_all, length-take-le}
 use Rattle.octets.proofs.Laws.{either}
 use Rattle.rtp.specs.Header.{header_bytes, marker_in, sequence_in, payload_in}
 use Rattle.packets.specs.Packets.{start_of, is_running}
@@ -42,28 +42,29 @@ pub record Numbered (m : Numbers) (part outer : List ℕ) (sequence gap held : �
   pub gap_is : gap ≡ gap_before m sequence
   pub held_is : held ≡ length (part_of (reader m part))
   pub marked_is : marked ≡ eqb (marker_in outer) 1
-  pub start_is : start ≡ header_bytes + cond marked (offset_in outer) (length (payload_in outer))
+  pub start_is : start ≡ cond marked (offset_in outer) (length (payload_in outer))
 
-pub numbered : (m : Numbers) (part outer : List ℕ) (sequence gap held marker start : ℕ) → sequence ≡ sequence_in outer → gap ≡ gap_before m sequence → held ≡ length (part_of (reader m part)) → marker ≡ marker_in outer → start ≡ header_bytes + cond (eqb marker 1) (offset_in outer) (length (payload_in outer)) → Numbered m part outer sequence gap held (eqb marker 1) start
+pub numbered : (m : Numbers) (part outer : List ℕ) (sequence gap held marker start : ℕ) → sequence ≡ sequence_in outer → gap ≡ gap_before m sequence → held ≡ length (part_of (reader m part)) → marker ≡ marker_in outer → start ≡ cond (eqb marker 1) (offset_in outer) (length (payload_in outer)) → Numbered m part outer sequence gap held (eqb marker 1) start
 numbered m part outer sequence gap' held marker start s g h k t =
     record { sequence_is = s; gap_is = g; held_is = h; marked_is = ap (λ (b : ℕ). eqb b 1) k; start_is = t }
 
-module _ (m : Numbers) (part outer out : List ℕ) (sequence gap' held : ℕ) (marked' : Bool) (start : ℕ) (n : Numbered m part outer sequence gap' held marked' start) where
+-- the payload, as a part of the outer packet
+pub payload_all : (outer : List ℕ) → take (length outer - header_bytes) (payload_in outer) ≡ payload_in outer
+payload_all outer = take_all (length outer - header_bytes) (payload_in outer) (omega (arith, length-drop header_bytes outer))
+
+module _ (m : Numbers) (part outer out : List ℕ) (sequence gap' held : ℕ) (marked' : Bool) (start : ℕ) (n : Numbered m part outer sequence gap' held marked' start) (payload : List ℕ) (all : payload ≡ payload_in outer) where
   abbrev r : Reader
   r = reader m part
 
-  -- the test of the marked start, by its place in the outer packet
-  outside : header_bytes ≤ length outer → (marked r outer out && leb (length (payload_in outer)) (offset_in outer)) ≡ (marked' && leb (length outer) start)
-  outside long = rw (← n.marked_is) (go marked' refl)
+  -- the test of the marked start, by its place in the payload
+  outside : (marked r outer out && leb (length (payload_in outer)) (offset_in outer)) ≡ (marked' && leb (length payload) start)
+  outside = rw (← n.marked_is, all) (go marked' refl)
     where
-      go : (b : Bool) → marked' ≡ b → (marked' && leb (length (payload_in outer)) (offset_in outer)) ≡ (marked' && leb (length outer) start)
+      go : (b : Bool) → marked' ≡ b → (marked' && leb (length (payload_in outer)) (offset_in outer)) ≡ (marked' && leb (length (payload_in outer)) start)
       go false e = rw e refl
       go true e =
-          let s : start ≡ header_bytes + offset_in outer = n.start_is ∙ ap (λ (b : Bool). header_bytes + cond b (offset_in outer) (length (payload_in outer))) e in
-          rw e
-          (either (leb (length outer) start)
-          (λ t. le-leb (length (payload_in outer)) (offset_in outer) (omega (arith, leb-true (length outer) start t, s, length-drop header_bytes outer)) ∙ sym t)
-          (λ t. lt-leb (length (payload_in outer)) (offset_in outer) (omega (arith, leb-false (length outer) start t, s, length-drop header_bytes outer)) ∙ sym t))
+          let s : start ≡ offset_in outer = n.start_is ∙ ap (λ (b : Bool). cond b (offset_in outer) (length (payload_in outer))) e in
+          rw s refl
 
   gap_same : gap' ≡ gap r outer out
   gap_same = n.gap_is ∙ ap (gap_before m) n.sequence_is
@@ -73,13 +74,13 @@ module _ (m : Numbers) (part outer out : List ℕ) (sequence gap' held : ℕ) (m
 
   -- ---- 17
 
-  pub accept_drops : header_bytes ≤ length outer → (marked' && leb (length outer) start) ≡ true → AcceptSays m part outer out (Err (BadOffset gap' (held + (length outer - header_bytes)))) (record { last = Some sequence; held = 0 }) part out
+  pub accept_drops : (marked' && leb (length payload) start) ≡ true → AcceptSays m part outer out (Err (BadOffset gap' (held + length payload))) (record { last = Some sequence; held = 0 }) part out
   unfolding accepted
-  accept_drops long t =
-      let e : (marked r outer out && leb (length (payload_in outer)) (offset_in outer)) ≡ true = outside long ∙ t in
+  accept_drops t =
+      let e : (marked r outer out && leb (length (payload_in outer)) (offset_in outer)) ≡ true = outside ∙ t in
       rw e (
       record {
-        answers = ap₂ (λ (g l : ℕ). Err (BadOffset g l)) gap_same (ap₂ ◌+◌ n.held_is (sym (length-drop header_bytes outer)));
+        answers = λ i. Err (BadOffset (gap_same i) (n.held_is i + length (all i)));
         holds = ap (λ (k : ℕ). reader (record { last = Some k; held = 0 }) part) n.sequence_is;
         leaves = refl;
       })
@@ -111,34 +112,32 @@ module _ (m : Numbers) (part outer out : List ℕ) (sequence gap' held : ℕ) (m
 
     -- ---- the place from which on
 
-    module _ (long : header_bytes ≤ length outer) (here : (marked' && leb (length outer) start) ≡ false) where
-      pub start_here : (header_bytes ≤ start) × (start ≤ length outer) × (marked' ≡ false → start ≡ length outer)
+    module _ (here : (marked' && leb (length payload) start) ≡ false) where
+      pub start_here : (start ≤ length payload) × (marked' ≡ false → start ≡ length payload)
       start_here = go marked' refl
         where
-          go : (b : Bool) → marked' ≡ b → (header_bytes ≤ start) × (start ≤ length outer) × (marked' ≡ false → start ≡ length outer)
+          go : (b : Bool) → marked' ≡ b → (start ≤ length payload) × (marked' ≡ false → start ≡ length payload)
           go true e =
-              let t : leb (length outer) start ≡ false = rw e at here in
-              (omega (arith, n.start_is), omega (arith, leb-false (length outer) start t), λ f. absurd (true≢false (sym e ∙ f)))
+              let t : leb (length payload) start ≡ false = rw e at here in
+              (omega (arith, leb-false (length payload) start t), λ f. absurd (true≢false (sym e ∙ f)))
           go false e =
-              let s : start ≡ header_bytes + length (payload_in outer) = n.start_is ∙ ap (λ (b : Bool). header_bytes + cond b (offset_in outer) (length (payload_in outer))) e in
-              let all : start ≡ length outer = omega (arith, s, length-drop header_bytes outer) in
-              (omega (arith, s), omega (arith, all), λ f. all)
+              let end : start ≡ length payload = n.start_is ∙ ap (λ (b : Bool). cond b (offset_in outer) (length (payload_in outer))) e ∙ ap length (sym all) in
+              (omega (arith, end), λ f. end)
 
-      found_same : found_at marked' (start - header_bytes) (take keep part) (payload_in outer) ≡ found r outer out
+      found_same : found_at marked' start (take keep part) payload ≡ found r outer out
       found_same =
-          let e : start - header_bytes ≡ cond marked' (offset_in outer) (length (payload_in outer)) = omega (arith, n.start_is) in
-          ap₂ (λ (k : ℕ) (p : List ℕ). found_at marked' k p (payload_in outer)) e kept_front
+          (λ i. found_at marked' (n.start_is i) (kept_front i) (all i))
           ∙ ap (λ (b : Bool). found_at b (cond b (offset_in outer) (length (payload_in outer))) (kept r outer out) (payload_in outer)) n.marked_is
 
-      module _ (part' out' : List ℕ) (end more lost : ℕ) (g : Gains (found_at marked' (start - header_bytes) (take keep part) (payload_in outer)) part out 0 part' out' end more lost) where
-        pub lost_most : lost ≤ held + length outer
+      module _ (part' out' : List ℕ) (end more lost : ℕ) (g : Gains (found_at marked' start (take keep part) payload) part out 0 part' out' end more lost) where
+        pub lost_most : lost ≤ held + length payload
         lost_most =
-            omega (arith, g.4, at_weight marked' (start - header_bytes) (take keep part) (payload_in outer), length-drop header_bytes outer, length-take-le keep part (omega (arith, kept_most, held_inside)), kept_most)
+            omega (arith, g.4, at_weight marked' start (take keep part) payload, length-take-le keep part (omega (arith, kept_most, held_inside)), kept_most)
 
         pub accept_reads : AcceptSays m part outer out (Ok (Stored end gap' (held - keep + lost))) (record { last = Some sequence; held = more }) part' out'
         unfolding accepted
         accept_reads =
-            let e : (marked r outer out && leb (length (payload_in outer)) (offset_in outer)) ≡ false = outside long ∙ here in
+            let e : (marked r outer out && leb (length (payload_in outer)) (offset_in outer)) ≡ false = outside ∙ here in
             let f : Found = found r outer out in
             let h : Gains f part out 0 part' out' end more lost = subst (λ (f : Found). Gains f part out 0 part' out' end more lost) found_same g in
             rw e (

@@ -1,16 +1,17 @@
 -- Laws of the reader's code, in its own terms. Assumes nothing.
 use mathlib.Core.Path.{◌≡◌, refl, sym, ap, ap₂, ◌∙◌}
 use mathlib.Core.Bool.{Bool, true, false}
-use mathlib.Core.List.{List, [], ◌++◌, flat_map, append_assoc, append-nil}
+use mathlib.Core.List.{List, [], ◌++◌, flat_map, append-nil}
 use Prim.Native.Nat.{ℕ, zero, suc, ◌+◌, ◌-◌, ◌%◌, ◌≤◌, ◌<◌}
 use native.Mathlib.Nat.{zero-add}
 use native.Mathlib.Omega.{arith}
+use borrow.Rule.Slice.PartMut.{put_mid}
 use borrow.Author.Tests.{eq-eqb, ne_eqb, lt-ltb, le-ltb}
-use lib.ListN.{length, get_or, take, drop, length-append, length-drop, take-append-drop, get_or-append}
-use lib.Seq.{take_all, get_or-take, get_or-drop, length-take-le, drop_at, sets, sets-eq}
+use lib.ListN.{length, get_or, take, drop, length-append, take-append-drop, get_or-append}
+use lib.Seq.{take_all, length-take-le, sets, sets-eq, length-sets}
 use Rattle.octets.specs.Word.{word}
-use Rattle.octets.proofs.Stores.{sets-append}
-use Rattle.rtp.specs.Header.{header_bytes, sequences, is_plain, payload_in}
+use Rattle.octets.proofs.Stores.{sets-append, put_mid-sets}
+use Rattle.rtp.specs.Header.{sequences, is_plain}
 use Rattle.packets.specs.declared.Start.{Start}
 use Rattle.packets.specs.declared.Start.TheVariants.{Running, Whole, Fault}
 use Rattle.packets.specs.Packets.{longest_packet, telling_bytes, total_length, start_by, start_of}
@@ -70,14 +71,7 @@ pub one : (n : ℕ) → (n ≡ 0 → ⊥) → 1 ≤ n
 one zero z = absurd (z refl)
 one (suc n) z = omega arith
 
--- ---- a part and the payload behind it
-
--- the payload up to a place of the outer packet, and a part before it
-abbrev pub up_to : List ℕ → ℕ → List ℕ
-up_to outer start = take (start - header_bytes) (payload_in outer)
-
-abbrev pub behind : List ℕ → ℕ → List ℕ → ℕ → List ℕ
-behind part held outer start = take held part ++ up_to outer start
+-- ---- a packet in two pieces
 
 -- the start of a list put over itself
 pub sets_front : (l : List ℕ) (n : ℕ) → n ≤ length l → sets l 0 (take n l) ≡ l
@@ -85,83 +79,65 @@ sets_front l n h =
     let e : 0 + length (take n l) ≡ n = omega (arith, length-take-le n l h) in
     sets-eq (take n l) l 0 (omega (arith, length-take-le n l h)) ∙ ap (λ (k : ℕ). take n l ++ drop k l) e ∙ take-append-drop n l
 
-module _ (part outer : List ℕ) (held : ℕ) (inside : held ≤ length part) where
-  front : length (take held part) ≡ held
-  front = length-take-le held part inside
+module _ (part more : List ℕ) where
+  byte_first : (i : ℕ) → i < length part → get_or part i 0 ≡ get_or (part ++ more) i 0
+  byte_first i h = sym (get_or-append part more 0 i h)
 
-  pub byte_first : (i : ℕ) → i < held → get_or part i 0 ≡ get_or (take held part ++ payload_in outer) i 0
-  byte_first i h = sym (get_or-append (take held part) (payload_in outer) 0 i (omega (arith, front)) ∙ get_or-take held part i 0 h)
+  module _ (some : 1 ≤ length part) where
+    pub joined_few : length part + length more < telling_bytes → start_by (length part + length more) (get_or part 0 0) 0 ≡ start_of (part ++ more)
+    unfolding start_of
+    joined_few h =
+        early (length part + length more) (get_or part 0 0) 0 (total_length (part ++ more)) h
+        ∙ (λ i. start_by (sym (length-append part more) i) (byte_first 0 some i) (total_length (part ++ more)))
 
-  pub byte-behind : (i : ℕ) → held ≤ i → get_or outer (header_bytes + (i - held)) 0 ≡ get_or (take held part ++ payload_in outer) i 0
-  byte-behind i h =
-      let e : held + (i - held) ≡ i = omega arith in
-      sym (get_or-drop header_bytes outer (i - held) 0)
-      ∙ ap (λ (t : List ℕ). get_or t (i - held) 0) (sym (drop_at (take held part) (payload_in outer) held front))
-      ∙ get_or-drop held (take held part ++ payload_in outer) (i - held) 0
-      ∙ ap (λ (k : ℕ). get_or (take held part ++ payload_in outer) k 0) e
+    pub joined_told : (a b total : ℕ) → a ≡ get_or (part ++ more) 2 0 → b ≡ get_or (part ++ more) 3 0 → total ≡ word a b → start_by (length part + length more) (get_or part 0 0) total ≡ start_of (part ++ more)
+    unfolding start_of
+    joined_told a b total ea eb et =
+        ap (start_by (length part + length more) (get_or part 0 0)) (et ∙ ap₂ word ea eb)
+        ∙ (λ i. start_by (sym (length-append part more) i) (byte_first 0 some i) (total_length (part ++ more)))
 
-  module _ (start : ℕ) (ahead : header_bytes ≤ start) (within : start ≤ length outer) where
-    abbrev joined : List ℕ
-    joined = behind part held outer start
+  -- stored in three runs
+  joined-stored : (out l m n : List ℕ) (to : ℕ) → l ≡ sets out to (stored_head (length part + length more)) → m ≡ sets l (to + stored_head_bytes) part → n ≡ sets m (to + stored_head_bytes + length part) more → n ≡ sets out to (stored_packet (part ++ more))
+  joined-stored out l m n to el em en =
+      en
+      ∙ ap (λ (t : List ℕ). sets t (to + stored_head_bytes + length part) more) (em ∙ ap (λ (t : List ℕ). sets t (to + stored_head_bytes) part) el)
+      ∙ sym (sets-append part more (sets out to (stored_head (length part + length more))) (to + stored_head_bytes))
+      ∙ sym (sets-append (stored_head (length part + length more)) (part ++ more) out to)
+      ∙ ap (λ (k : ℕ). sets out to (stored_head k ++ (part ++ more))) (sym (length-append part more))
 
-    pub more_length : length (up_to outer start) ≡ start - header_bytes
-    more_length = length-take-le (start - header_bytes) (payload_in outer) (omega (arith, length-drop header_bytes outer))
+  pub packet_put : (out store p q : List ℕ) (to : ℕ) → store ≡ sets out to (stored_head (length part + length more)) → p ≡ part → q ≡ more → to + (stored_head_bytes + (length part + length more)) ≤ length out → put_mid (to + stored_head_bytes + length part) (to + stored_head_bytes + (length part + length more) - (to + stored_head_bytes + length part)) (put_mid (to + stored_head_bytes) (to + stored_head_bytes + length part - (to + stored_head_bytes)) store p) q ≡ sets out to (stored_packet (part ++ more))
+  packet_put out store p q to head first second room =
+      let long : length store ≡ length out = ap length head ∙ length-sets out to (stored_head (length part + length more)) in
+      let m : List ℕ = put_mid (to + stored_head_bytes) (to + stored_head_bytes + length part - (to + stored_head_bytes)) store p in
+      let put : m ≡ sets store (to + stored_head_bytes) part = put_mid-sets (to + stored_head_bytes) _ store p part first (omega arith) (omega (arith, long, room)) in
+      let same : length m ≡ length out = ap length put ∙ length-sets store (to + stored_head_bytes) part ∙ long in
+      joined-stored out store m _ to head put (put_mid-sets (to + stored_head_bytes + length part) _ m q more second (omega arith) (omega (arith, same, room)))
 
-    pub joined_length : length joined ≡ held + (start - header_bytes)
-    joined_length = length-append (take held part) (up_to outer start) ∙ ap₂ ◌+◌ front more_length
+-- the bytes that are held, in their memory, and the bytes behind them
+module _ (held : ℕ) (memory : List ℕ) (all : length memory ≡ longest_packet) (least : held ≤ longest_packet) where
+  pub inside : held ≤ length memory
+  inside = omega (arith, all, least)
 
-    -- a byte of it does not depend on what comes behind the start
-    joined-byte : (i : ℕ) → i < held + (start - header_bytes) → get_or (take held part ++ payload_in outer) i 0 ≡ get_or joined i 0
-    joined-byte i h =
-        let ys : List ℕ = payload_in outer in
-        ap (λ (t : List ℕ). get_or (take held part ++ t) i 0) (sym (take-append-drop (start - header_bytes) ys))
-        ∙ ap (λ (t : List ℕ). get_or t i 0) (sym (append_assoc (take held part) (take (start - header_bytes) ys) (drop (start - header_bytes) ys)))
-        ∙ get_or-append joined (drop (start - header_bytes) ys) 0 i (omega (arith, joined_length))
+  pub held_front : length (take held memory) ≡ held
+  held_front = length-take-le held memory inside
 
-    module _ (some : 1 ≤ held) where
-      first_byte : get_or part 0 0 ≡ get_or joined 0 0
-      first_byte = byte_first 0 (omega arith) ∙ joined-byte 0 (omega arith)
+  pub held_some : (held ≡ 0 → ⊥) → 1 ≤ length (take held memory)
+  held_some some = omega (arith, one held some, held_front)
 
-      pub joined_few : held + (start - header_bytes) < telling_bytes → start_by (held + (start - header_bytes)) (get_or part 0 0) 0 ≡ start_of joined
-      unfolding start_of
-      joined_few h =
-          early (held + (start - header_bytes)) (get_or part 0 0) 0 (total_length joined) h
-          ∙ (λ i. start_by (sym joined_length i) (first_byte i) (total_length joined))
+  module _ (more : List ℕ) where
+    pub joined_length : length (take held memory ++ more) ≡ held + length more
+    joined_length = length-append (take held memory) more ∙ ap (λ (k : ℕ). k + length more) held_front
 
-      pub joined_told : (a b total : ℕ) → telling_bytes ≤ held + (start - header_bytes) → a ≡ get_or (take held part ++ payload_in outer) 2 0 → b ≡ get_or (take held part ++ payload_in outer) 3 0 → total ≡ word a b → start_by (held + (start - header_bytes)) (get_or part 0 0) total ≡ start_of joined
-      unfolding start_of
-      joined_told a b total h ea eb et =
-          ap (start_by (held + (start - header_bytes)) (get_or part 0 0)) (et ∙ ap₂ word (ea ∙ joined-byte 2 (omega arith)) (eb ∙ joined-byte 3 (omega arith)))
-          ∙ (λ i. start_by (sym joined_length i) (first_byte i) (total_length joined))
+    pub room : length (take held memory ++ more) < longest_packet → held + length more ≤ length memory
+    room short = omega (arith, joined_length, all, short)
 
-    -- stored in three runs
-    pub joined-stored : (out l m n : List ℕ) → l ≡ sets out 0 (stored_head (held + (start - header_bytes))) → m ≡ sets l stored_head_bytes (take held (drop 0 part)) → n ≡ sets m (stored_head_bytes + held) (take (start - header_bytes) (drop header_bytes outer)) → n ≡ sets out 0 (stored_packet joined)
-    joined-stored out l m n el em en =
-        en
-        ∙ ap (λ (t : List ℕ). sets t (stored_head_bytes + held) (up_to outer start)) (em ∙ ap (λ (t : List ℕ). sets t stored_head_bytes (take held part)) el)
-        ∙ ap (λ (k : ℕ). sets (sets (sets out 0 (stored_head (held + (start - header_bytes)))) stored_head_bytes (take held part)) (stored_head_bytes + k) (up_to outer start)) (sym front)
-        ∙ sym (sets-append (take held part) (up_to outer start) (sets out 0 (stored_head (held + (start - header_bytes)))) stored_head_bytes)
-        ∙ sym (sets-append (stored_head (held + (start - header_bytes))) joined out 0)
-        ∙ ap (λ (k : ℕ). sets out 0 (stored_head k ++ joined)) (sym joined_length)
-
-    -- the part goes on
-    pub part_behind : (p : List ℕ) → p ≡ sets part held (take (start - header_bytes) (drop header_bytes outer)) → p ≡ sets part 0 joined
-    part_behind p e =
-        e
-        ∙ ap (λ (t : List ℕ). sets t held (up_to outer start)) (sym (sets_front part held inside))
-        ∙ ap (λ (k : ℕ). sets (sets part 0 (take held part)) k (up_to outer start)) (sym (zero-add (length (take held part)) ∙ front))
-        ∙ sym (sets-append (take held part) (up_to outer start) part 0)
-
--- ---- a packet of the payload, stored in two runs
-
-pub packet_stored : (outer : List ℕ) (at n : ℕ) → at + n ≤ length outer → (out l m : List ℕ) (to : ℕ) → l ≡ sets out to (stored_head n) → m ≡ sets l (to + stored_head_bytes) (take n (drop at outer)) → m ≡ sets out to (stored_packet (take n (drop at outer)))
-packet_stored outer at n inside out l m to el em =
-    let p : List ℕ = take n (drop at outer) in
-    let long : length p ≡ n = length-take-le n (drop at outer) (omega (arith, length-drop at outer)) in
-    em
-    ∙ ap (λ (t : List ℕ). sets t (to + stored_head_bytes) p) el
-    ∙ sym (sets-append (stored_head n) p out to)
-    ∙ ap (λ (k : ℕ). sets out to (stored_head k ++ p)) (sym long)
+-- the part goes on
+pub part_behind : (part more p : List ℕ) (held : ℕ) → held ≤ length part → p ≡ sets part held more → p ≡ sets part 0 (take held part ++ more)
+part_behind part more p held inside e =
+    e
+    ∙ ap (λ (t : List ℕ). sets t held more) (sym (sets_front part held inside))
+    ∙ ap (λ (k : ℕ). sets (sets part 0 (take held part)) k more) (sym (zero-add (length (take held part)) ∙ length-take-le held part inside))
+    ∙ sym (sets-append (take held part) more part 0)
 
 -- ---- what is found before the marked start
 
@@ -170,40 +146,28 @@ module _ (marked : Bool) (part xs : List ℕ) where
   unfolding found_before
   before_none e = simp (eq-eqb (length part) 0 e)
 
-  pub before_some : {s : Start} → 1 ≤ length part → start_of (part ++ xs) ≡ s → found_before marked part xs ≡ runs_on s marked (part ++ xs)
-  unfolding found_before
-  before_some some is = rw (ne_eqb (length part) 0 (λ e. omega (arith, e, some)), is) refl
+  module _ (some : 1 ≤ length part) where
+    before_some : {s : Start} → start_of (part ++ xs) ≡ s → found_before marked part xs ≡ runs_on s marked (part ++ xs)
+    unfolding found_before
+    before_some is = rw (ne_eqb (length part) 0 (λ e. omega (arith, e, some)), is) refl
 
--- as the code tells it: a part that is not empty, and the payload behind it up to a place
-module _ (part outer : List ℕ) (held : ℕ) (inside : held ≤ length part) (start : ℕ) (ahead : header_bytes ≤ start) (within : start ≤ length outer) (marked : Bool) where
-  pub before_nothing : held ≡ 0 → found_before marked (take held part) (up_to outer start) ≡ thrown (up_to outer start)
-  before_nothing e = before_none marked (take held part) (up_to outer start) (length-take-le held part inside ∙ e)
-
-  module _ (some : 1 ≤ held) where
-    some_part : 1 ≤ length (take held part)
-    some_part = omega (arith, length-take-le held part inside)
-
-    module _ (total : ℕ) (is : start_of (behind part held outer start) ≡ Whole total) where
+    module _ (total : ℕ) (is : start_of (part ++ xs) ≡ Whole total) where
       -- the marker contradicts it, or bytes without one follow it
-      pub before_other : (total ≡ held + (start - header_bytes) → ⊥) → found_before marked (take held part) (up_to outer start) ≡ thrown (behind part held outer start)
-      before_other apart =
-          before_some marked (take held part) (up_to outer start) some_part is
-          ∙ rw (ne_eqb total (length (behind part held outer start)) (λ e. apart (e ∙ joined_length part outer held inside start ahead within))) refl
+      pub before_other : (total ≡ length (part ++ xs) → ⊥) → found_before marked part xs ≡ thrown (part ++ xs)
+      before_other apart = before_some is ∙ rw (ne_eqb total (length (part ++ xs)) apart) refl
 
-      pub before_ends : total ≡ held + (start - header_bytes) → found_before marked (take held part) (up_to outer start) ≡ one_in (behind part held outer start)
-      before_ends e =
-          before_some marked (take held part) (up_to outer start) some_part is
-          ∙ rw (eq-eqb total (length (behind part held outer start)) (e ∙ sym (joined_length part outer held inside start ahead within))) refl
+      pub before_ends : total ≡ length (part ++ xs) → found_before marked part xs ≡ one_in (part ++ xs)
+      before_ends e = before_some is ∙ rw (eq-eqb total (length (part ++ xs)) e) refl
 
-    module _ (is : start_of (behind part held outer start) ≡ Running) where
-      pub before_cut : marked ≡ true → found_before marked (take held part) (up_to outer start) ≡ thrown (behind part held outer start)
-      before_cut m = before_some marked (take held part) (up_to outer start) some_part is ∙ rw m refl
+    module _ (is : start_of (part ++ xs) ≡ Running) where
+      pub before_cut : marked ≡ true → found_before marked part xs ≡ thrown (part ++ xs)
+      before_cut m = before_some is ∙ rw m refl
 
-      pub before_goes_on : marked ≡ false → found_before marked (take held part) (up_to outer start) ≡ part_in (behind part held outer start)
-      before_goes_on m = before_some marked (take held part) (up_to outer start) some_part is ∙ rw m refl
+      pub before_goes_on : marked ≡ false → found_before marked part xs ≡ part_in (part ++ xs)
+      before_goes_on m = before_some is ∙ rw m refl
 
-    pub before_fault : start_of (behind part held outer start) ≡ Fault → found_before marked (take held part) (up_to outer start) ≡ thrown (behind part held outer start)
-    before_fault is = before_some marked (take held part) (up_to outer start) some_part is
+    pub before_fault : start_of (part ++ xs) ≡ Fault → found_before marked part xs ≡ thrown (part ++ xs)
+    before_fault is = before_some is
 
 -- ---- what some bytes leave
 

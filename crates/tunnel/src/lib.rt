@@ -1,7 +1,7 @@
 // The tunnel's reader: one outer packet in, the inner packets that it finishes out. What is running is held until the next.
 #![tactic(auto)]
 
-ghost use Rattle.std.specs.Prelude.{◌≡◌, false, cond, ◌&&◌, ◌++◌, ◌+◌, ◌-◌, ◌≤◌, ◌<◌, eqb, leb, length, get_or, take, drop};
+ghost use Rattle.std.specs.Prelude.{◌≡◌, false, cond, ◌&&◌, ◌++◌, ◌+◌, ◌≤◌, ◌<◌, eqb, leb, length, get_or, take};
 ghost use Rattle.std.proofs.lemmas.List.Edits.{sets};
 ghost use Rattle.rtp.specs.Header.{header_bytes, payload_in};
 ghost use Rattle.packets.specs.Packets.{longest_packet, start_of};
@@ -127,80 +127,82 @@ struct Gained {
     lost: usize,
 }
 
-// All of some bytes are thrown away.
-fn throw(lost: usize) -> Gained
-    ensures { (result.to ≡ 0) × (result.held ≡ 0) × (result.lost ≡ lost) }
+// The same, where the bytes that are held stand at the end of those that were read.
+#[derive(Clone, Copy)]
+struct Reached<'a> {
+    to: usize,
+    running: &'a [u8],
+    lost: usize,
+}
+
+// ---- a packet whose start is held, and the rest of which came; the part that is held is empty where all of it came
+
+// A byte of both.
+fn joined_byte(part: &[u8], more: &[u8], i: usize) -> u8
+    requires { i < length part.now + length more.now }
+    ensures { result ≡ get_or (part.now ++ more.now) i 0 }
 {
-    Gained {
-        to: 0,
-        held: 0,
-        lost: lost,
+    if i < part.len() {
+        return part[i];
     }
+    more[i - part.len()]
+}
+
+// What both are as the start of a packet.
+fn joined_start(part: &[u8], more: &[u8]) -> Start
+    requires { 1 ≤ length part.now }
+    ensures { result ≡ start_of (part.now ++ more.now) }
+{
+    let n = part.len() + more.len();
+    if n < 4 {
+        return packets::start_by(n, part[0], 0);
+    }
+    let third = joined_byte(part, more, 2);
+    let fourth = joined_byte(part, more, 3);
+    let total = u16::from_be_bytes([third, fourth]);
+    packets::start_by(n, part[0], total as usize)
+}
+
+// Stores the packet that both are at a place of the output.
+fn put_packet(part: &[u8], more: &[u8], out: &mut [u8], to: usize)
+    requires { (length part.now + length more.now ≤ longest_packet) × (to + (stored_head_bytes + (length part.now + length more.now)) ≤ length out.old) }
+    ensures { out.new ≡ sets out.old to (stored_packet (part.now ++ more.now)) }
+{
+    let n = part.len() + more.len();
+    packets::put_head(n, out, to);
+    let from = to + STORED_HEAD_BYTES;
+    let middle = from + part.len();
+    out[from..middle].copy_from_slice(part);
+    out[middle..from + n].copy_from_slice(more);
 }
 
 // ---- the bytes before the marked start, behind a part
 
-// The byte at a place of a part and the payload behind it.
-fn joined_byte(part: &[u8], held: usize, outer: &[u8], i: usize) -> u8
-    requires { (held ≤ length part.now) × (i + header_bytes < held + length outer.now) }
-    ensures { result ≡ get_or (take held part.now ++ payload_in outer.now) i 0 }
-{
-    if i < held {
-        return part[i];
-    }
-    outer[HEADER_BYTES + (i - held)]
-}
-
-// What a part and the payload behind it, up to a place of the outer packet, are as the start of a packet.
-fn joined_start(part: &[u8], held: usize, outer: &[u8], start: usize) -> Start
-    requires { (1 ≤ held) × (held ≤ length part.now) × (header_bytes ≤ start) × (start ≤ length outer.now) }
-    ensures { result ≡ start_of (take held part.now ++ take (start - header_bytes) (payload_in outer.now)) }
-{
-    let n = held + (start - HEADER_BYTES);
-    if n < 4 {
-        return packets::start_by(n, part[0], 0);
-    }
-    let third = joined_byte(part, held, outer, 2);
-    let fourth = joined_byte(part, held, outer, 3);
-    let total = octets::word_of(third, fourth) as usize;
-    packets::start_by(n, part[0], total)
-}
-
-// Stores the packet that they are.
-fn put_joined(part: &[u8], held: usize, outer: &[u8], start: usize, out: &mut [u8])
-    requires held_in_bounds { (held ≤ length part.now) × (header_bytes ≤ start) × (start ≤ length outer.now) }
-    requires header_bytes_bound { (held + (start - header_bytes) ≤ longest_packet) × (stored_head_bytes + (held + (start - header_bytes)) ≤ length out.old) }
-    ensures { out.new ≡ sets out.old 0 (stored_packet (take held part.now ++ take (start - header_bytes) (payload_in outer.now))) }
-{
-    let more = start - HEADER_BYTES;
-    packets::put_head(held + more, out, 0);
-    copies::put(out, STORED_HEAD_BYTES, part, 0, held);
-    copies::put(out, STORED_HEAD_BYTES + held, outer, HEADER_BYTES, more);
-}
-
-// The bytes of the payload up to a place, behind a part.
 fn read_before(
-    part: &mut [u8],
+    part: &mut [u8; 1500],
     held: usize,
-    outer: &[u8],
-    start: usize,
+    more: &[u8],
     marked: bool,
     out: &mut [u8],
 ) -> Gained
-    requires { (held ≤ length part.old) × (length part.old ≡ longest_packet) × (header_bytes ≤ start) × (start ≤ length outer.now) × (shortest_output ≤ length out.old) }
-    ensures { Gains (found_before marked (take held part.old) (take (start - header_bytes) (payload_in outer.now))) part.old out.old 0 part.new out.new result.to result.held result.lost }
+    requires { (held ≤ longest_packet) × (shortest_output ≤ length out.old) }
+    ensures { Gains (found_before marked (take held part.old) more.now) part.old out.old 0 part.new out.new result.to result.held result.lost }
 {
-    let more = start - HEADER_BYTES;
+    let n = held + more.len();
+    let thrown = Gained {
+        to: 0,
+        held: 0,
+        lost: n,
+    };
     if held == 0 {
-        return throw(more);
+        return thrown;
     }
-    let n = held + more;
-    match joined_start(part, held, outer, start) {
+    match joined_start(&part[..held], more) {
         Start::Whole(total) => {
             if total != n {
-                return throw(n);
+                return thrown;
             }
-            put_joined(part, held, outer, start, out);
+            put_packet(&part[..held], more, out, 0);
             Gained {
                 to: STORED_HEAD_BYTES + n,
                 held: 0,
@@ -209,90 +211,81 @@ fn read_before(
         }
         Start::Running => {
             if marked {
-                return throw(n);
+                return thrown;
             }
-            copies::put(part, held, outer, HEADER_BYTES, more);
+            part[held..n].copy_from_slice(more);
             Gained {
                 to: 0,
                 held: n,
                 lost: 0,
             }
         }
-        Start::Fault => throw(n),
+        Start::Fault => thrown,
     }
 }
 
 // ---- from the marked start on
 
-// Stores the packet of n bytes at a place of the outer packet.
-fn put_packet(outer: &[u8], at: usize, n: usize, out: &mut [u8], to: usize)
-    requires { (at + n ≤ length outer.now) × (n ≤ longest_packet) × (to + (stored_head_bytes + n) ≤ length out.old) }
-    ensures { out.new ≡ sets out.old to (stored_packet (take n (drop at outer.now))) }
+// Packet after packet.
+fn read_from<'a>(bytes: &'a [u8], out: &mut [u8], to: usize) -> Reached<'a>
+    requires { to + length (stored (found_in bytes.now).packets) ≤ length out.old }
+    ensures { (result.to ≡ to + length (stored (found_in bytes.now).packets)) × (out.new ≡ sets out.old to (stored (found_in bytes.now).packets)) × (result.running.now ≡ (found_in bytes.now).part) × (result.lost ≡ (found_in bytes.now).lost) }
 {
-    packets::put_head(n, out, to);
-    copies::put(out, to + STORED_HEAD_BYTES, outer, at, n);
-}
-
-// Packet after packet from a place on; what is held is the end of the outer packet.
-fn read_from(outer: &[u8], start: usize, out: &mut [u8], to: usize) -> Gained
-    requires { (start ≤ length outer.now) × (to + length (stored (found_in (drop start outer.now)).packets) ≤ length out.old) }
-    ensures { (result.to ≡ to + length (stored (found_in (drop start outer.now)).packets)) × (out.new ≡ sets out.old to (stored (found_in (drop start outer.now)).packets)) × (result.held ≤ length outer.now) × ((found_in (drop start outer.now)).part ≡ drop (length outer.now - result.held) outer.now) × (result.lost ≡ (found_in (drop start outer.now)).lost) }
-{
-    let mut at = start;
+    let mut rest = bytes;
     let mut end = to;
-    while at < outer.len() {
-        match packets::start_at(outer, at) {
+    while !rest.is_empty() {
+        match packets::start_of(rest) {
             Start::Whole(n) => {
-                put_packet(outer, at, n, out, end);
-                at += n;
+                let (packet, behind) = rest.split_at(n);
+                put_packet(&[], packet, out, end);
                 end += STORED_HEAD_BYTES + n;
+                rest = behind;
             }
             Start::Running => {
-                return Gained {
+                return Reached {
                     to: end,
-                    held: outer.len() - at,
+                    running: rest,
                     lost: 0,
                 };
             }
             Start::Fault => {
-                return Gained {
+                return Reached {
                     to: end,
-                    held: 0,
-                    lost: outer.len() - at,
+                    running: &rest[..0],
+                    lost: rest.len(),
                 };
             }
         }
     }
-    Gained {
+    Reached {
         to: end,
-        held: 0,
+        running: rest,
         lost: 0,
     }
 }
 
-// The whole payload, behind a part.
+// The whole payload, behind a part: up to the marked start, and from there on.
 fn read_behind(
-    part: &mut [u8],
+    part: &mut [u8; 1500],
     held: usize,
-    outer: &[u8],
+    payload: &[u8],
     start: usize,
     marked: bool,
     out: &mut [u8],
 ) -> Gained
-    requires held_in_bounds { (held ≤ length part.old) × (length part.old ≡ longest_packet) × (header_bytes ≤ start) × (start ≤ length outer.now) × (length outer.now ≤ longest_outer) × (shortest_output ≤ length out.old) }
-    requires start_value { marked ≡ false → start ≡ length outer.now }
-    ensures { Gains (found_at marked (start - header_bytes) (take held part.old) (payload_in outer.now)) part.old out.old 0 part.new out.new result.to result.held result.lost }
+    requires held_in_bounds { (held ≤ longest_packet) × (start ≤ length payload.now) × (length payload.now ≤ longest_outer) × (shortest_output ≤ length out.old) }
+    requires start_value { marked ≡ false → start ≡ length payload.now }
+    ensures { Gains (found_at marked start (take held part.old) payload.now) part.old out.old 0 part.new out.new result.to result.held result.lost }
 {
-    let end = outer.len();
-    let before = read_before(part, held, outer, start, marked, out);
-    let after = read_from(outer, start, out, before.to);
-    copies::put(part, 0, outer, end - after.held, after.held);
-    let running = before.held + after.held;
-    let lost = before.lost + after.lost;
+    let (ahead, behind) = payload.split_at(start);
+    let before = read_before(part, held, ahead, marked, out);
+    let after = read_from(behind, out, before.to);
+    let running = after.running;
+    part[..running.len()].copy_from_slice(running);
     Gained {
         to: after.to,
-        held: running,
-        lost: lost,
+        held: before.held + running.len(),
+        lost: before.lost + after.lost,
     }
 }
 
@@ -302,10 +295,7 @@ fn read_behind(
 fn is_outer(outer: &[u8]) -> bool
     ensures { result ≡ is_outer outer.now }
 {
-    if LONGEST_OUTER < outer.len() {
-        return false;
-    }
-    rtp::is_plain(STLTP, outer)
+    outer.len() <= LONGEST_OUTER && rtp::is_plain(STLTP, outer)
 }
 
 // How many outer packets are left out before the one with this sequence number.
@@ -321,23 +311,7 @@ fn gap_before(numbers: Numbers, sequence: u16) -> u16
     }
 }
 
-// How many bytes of a part are held: none where they are not the start of a packet that is running.
-fn held_in(numbers: Numbers, part: &[u8]) -> usize
-    requires { length part.now ≡ longest_packet }
-    ensures { result ≡ length (part_of (reader numbers part.now)) }
-{
-    let held = numbers.held;
-    if LONGEST_PACKET <= held {
-        return 0;
-    }
-    match packets::start_at(&part[..held], 0) {
-        Start::Running => held,
-        Start::Whole(_) => 0,
-        Start::Fault => 0,
-    }
-}
-
-// How many of them are kept: a gap drops the part.
+// How many of the bytes that are held are kept: a gap drops the part.
 fn kept_over(gap: u16, held: usize) -> usize
     ensures { result ≡ cond (eqb gap 0) held 0 }
 {
@@ -347,39 +321,37 @@ fn kept_over(gap: u16, held: usize) -> usize
     0
 }
 
-// The place of the marked start, else the end.
+// The place of the marked start in the payload, else its end.
 fn start_in(outer: &[u8], marked: bool) -> usize
     requires { header_bytes ≤ length outer.now }
-    ensures { result ≡ header_bytes + cond marked (offset_in outer.now) (length (payload_in outer.now)) }
+    ensures { result ≡ cond marked (offset_in outer.now) (length (payload_in outer.now)) }
 {
-    if !marked {
-        return outer.len();
+    if marked {
+        return u16::from_be_bytes([outer[10], outer[11]]) as usize;
     }
-    HEADER_BYTES + octets::word_of(outer[10], outer[11]) as usize
+    outer.len() - HEADER_BYTES
 }
 
 // Whether a marked start lies outside of the payload.
-fn is_outside(outer: &[u8], marked: bool, start: usize) -> bool
-    ensures { result ≡ (marked && leb (length outer.now) start) }
+fn is_outside(payload: &[u8], marked: bool, start: usize) -> bool
+    ensures { result ≡ (marked && leb (length payload.now) start) }
 {
-    if !marked {
-        return false;
-    }
-    outer.len() <= start
+    marked && payload.len() <= start
 }
 
 // An outer packet whose sequence number is accepted.
-fn accept(numbers: Numbers, part: &mut [u8], outer: &[u8], out: &mut [u8]) -> Fed
-    requires { (length part.old ≡ longest_packet) × (header_bytes ≤ length outer.now) × (length outer.now ≤ longest_outer) × (shortest_output ≤ length out.old) }
+fn accept(numbers: Numbers, part: &mut [u8; 1500], outer: &[u8], out: &mut [u8]) -> Fed
+    requires { (header_bytes ≤ length outer.now) × (length outer.now ≤ longest_outer) × (shortest_output ≤ length out.old) }
     ensures { AcceptSays numbers part.old outer.now out.old result.answer result.numbers part.new out.new }
 {
     let sequence = rtp::sequence_of(outer);
     let gap = gap_before(numbers, sequence);
-    let held = held_in(numbers, part);
+    let held = held(numbers, part);
+    let payload = &outer[HEADER_BYTES..];
     let marked = rtp::marker_of(outer) == 1;
     let start = start_in(outer, marked);
-    if is_outside(outer, marked, start) {
-        let lost = held + (outer.len() - HEADER_BYTES);
+    if is_outside(payload, marked, start) {
+        let lost = held + payload.len();
         return Fed {
             answer: Err(Refusal::BadOffset { gap, lost }),
             numbers: Numbers {
@@ -389,7 +361,7 @@ fn accept(numbers: Numbers, part: &mut [u8], outer: &[u8], out: &mut [u8]) -> Fe
         };
     }
     let kept = kept_over(gap, held);
-    let g = read_behind(part, kept, outer, start, marked, out);
+    let g = read_behind(part, kept, payload, start, marked, out);
     let lost = held - kept + g.lost;
     Fed {
         answer: Ok(Unwrapped::Stored {
@@ -414,12 +386,18 @@ pub fn fresh() -> Numbers
     }
 }
 
-// How many bytes of a part packet a reader holds.
+// How many bytes of a part packet a reader holds: none where they are not the start of one that is running.
 pub fn held(numbers: Numbers, part: &[u8; 1500]) -> usize
     ensures { result ≡ length (part_of (reader numbers part.now)) }
 {
-    let bytes: &[u8] = part;
-    held_in(numbers, bytes)
+    let held = numbers.held;
+    if LONGEST_PACKET <= held {
+        return 0;
+    }
+    match packets::start_of(&part[..held]) {
+        Start::Running => held,
+        Start::Whole(_) | Start::Fault => 0,
+    }
 }
 
 // Reads an outer packet: the inner packets that it finishes go to the start of the output. The part's memory is lent in place, from call to call.
@@ -444,6 +422,5 @@ pub fn unwrap(numbers: Numbers, part: &mut [u8; 1500], outer: &[u8], out: &mut [
             numbers,
         };
     }
-    let bytes: &mut [u8] = part;
-    accept(numbers, bytes, outer, out)
+    accept(numbers, part, outer, out)
 }

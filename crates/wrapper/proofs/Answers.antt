@@ -1,6 +1,6 @@
 -- What the calls come to, by the code's checks; and that each answer says it. Assumes nothing.
 use mathlib.Core.Path.{◌≡◌, refl, sym, ap, ◌∙◌}
-use mathlib.Core.Bool.{true, false}
+use mathlib.Core.Bool.{true}
 use mathlib.Core.List.{List, [], ◌∷◌, flat_map, append-nil}
 use Prim.Native.Nat.{ℕ, zero, suc, ◌+◌, ◌*◌, ◌/◌, ◌^◌, ◌≤◌, ◌<◌}
 use native.Mathlib.Nat.{zero-mul, suc-mul, mul-add, mul-le-mul_left, div-le_self, div-mul-le_self}
@@ -20,7 +20,7 @@ use Rattle.packets.proofs.Laws.{is_carried_lem}
 use Rattle.wrapper.specs.declared.Numbers.{Numbers}
 use Rattle.wrapper.specs.declared.Refusal.{Refusal}
 use Rattle.wrapper.specs.declared.Refusal.TheVariants.{ShortOutput}
-use Rattle.wrapper.specs.Wrap.{least_size, most_size, most_wrapped, is_size, Writer, writer, left_by, begin_by, Waiting, waiting_in, joined, running, head_bytes, outer_of, outers_of, rest_of, holding, full_in, filled_in, last_in, Sized, Fills, Outcome, unchanged, last_of, given, giving, wrapped, closed, Leaves}
+use Rattle.wrapper.specs.Wrap.{least_size, most_size, most_wrapped, is_size, Writer, left_by, begin_by, Waiting, waiting_in, joined, running, head_bytes, outer_of, outers_of, rest_of, full_in, filled_in, last_in, Sized, Fills, Outcome, unchanged, last_of, given, giving, wrapped, closed, Leaves}
 use Rattle.wrapper.proofs.Laws.{size-within, left_less, length_left}
 use Rattle.wrapper.proofs.Outers.{outer-stored, length-outer_of}
 use Rattle.wrapper.proofs.Later.{length-line-outers}

@@ -3,7 +3,7 @@ use mathlib.Core.Path.{◌≡◌, sym, ap, ◌∙◌}
 use mathlib.Core.Bool.{cond}
 use mathlib.Core.List.{List, ◌++◌, flat_map}
 use Prim.Native.Nat.{ℕ, zero, suc, ◌+◌, ◌*◌, ◌-◌, ◌/◌, ◌%◌, ◌^◌, ◌≤◌, ◌<◌}
-use native.Mathlib.Nat.{zero-add, zero-mul, suc-mul, lt-div-mul-add}
+use native.Mathlib.Nat.{zero-add, suc-mul, lt-div-mul-add}
 use native.Mathlib.Omega.{arith}
 use lib.Dec.{eqb}
 use lib.ListN.{length, take, drop, length-append, length-drop}
@@ -151,14 +151,6 @@ module _ (n size : ℕ) (some : 1 ≤ size) where
   pub full_most : n < n / size * size + size
   full_most = lt-div-mul-add some
 
-  pub full_some : size ≤ n → 1 ≤ n / size
-  full_some h = one (n / size) (λ e. omega (arith, full_most, ap (λ (k : ℕ). k * size) e, zero-mul size))
-
 pub once : (k size : ℕ) → 1 ≤ k → size ≤ k * size
 once zero size h = absurd (omega arith)
 once (suc k) size h = omega (arith, suc-mul k size)
-
--- all but one of them
-pub less_one : (k size : ℕ) → 1 ≤ k → (k - 1) * size + size ≡ k * size
-less_one zero size h = absurd (omega arith)
-less_one (suc k) size h = let e : suc k - 1 ≡ k = omega arith in ap (λ (n : ℕ). n * size + size) e ∙ sym (suc-mul k size)

@@ -1,10 +1,10 @@
 -- The writer's numbers, by the code's tests. Assumes nothing.
-use mathlib.Core.Path.{◌≡◌, sym, ap, ◌∙◌}
-use mathlib.Core.Bool.{true, false, cond, and-eq-true_iff}
+use mathlib.Core.Path.{◌≡◌, sym, ap}
+use mathlib.Core.Bool.{true, cond, and-eq-true_iff}
 use mathlib.Core.List.{List}
 use Prim.Native.Nat.{ℕ, ◌≤◌, ◌<◌}
 use native.Mathlib.Omega.{arith}
-use borrow.Author.Tests.{ltb-true, leb-true, lt-ltb, le-ltb, le-leb, lt-leb}
+use borrow.Author.Tests.{ltb-true, leb-true}
 use lib.Dec.{ltb, leb, eqb, lit≤}
 use lib.ListN.{length, take}
 use lib.Seq.{length-take-le}
@@ -28,44 +28,18 @@ number_most (Err a) = (refusal_within a).1
 
 -- ---- a payload's size
 
-module _ (n : ℕ) where
-  pub size_less : n < least_size → false ≡ is_size n
-  unfolding is_size
-  size_less h = simp (lt-leb least_size n h)
-
-  pub size-other : least_size ≤ n → leb n most_size ≡ is_size n
-  unfolding is_size
-  size-other h = simp (le-leb least_size n h)
-
-  pub size-within : is_size n ≡ true → (least_size ≤ n) × (n ≤ most_size)
-  unfolding is_size
-  size-within t =
-      let p = (and-eq-true_iff (leb least_size n) (leb n most_size)).0 t in
-      (leb-true least_size n p.0, leb-true n most_size p.1)
+pub size-within : (n : ℕ) → is_size n ≡ true → (least_size ≤ n) × (n ≤ most_size)
+unfolding is_size
+size-within n t =
+    let p = (and-eq-true_iff (leb least_size n) (leb n most_size)).0 t in
+    (leb-true least_size n p.0, leb-true n most_size p.1)
 
 -- ---- what is left, and where a packet begins in it
 
 module _ (m : Numbers) where
-  pub left_there : m.left < m.size → m.left ≡ left_by m
-  unfolding left_by
-  left_there h = simp (lt-ltb m.left m.size h)
-
-  pub left_none : m.size ≤ m.left → 0 ≡ left_by m
-  unfolding left_by
-  left_none h = simp (le-ltb m.left m.size h)
-
   pub left_less : 0 < m.size → left_by m < m.size
   unfolding left_by
   left_less h = either (ltb m.left m.size) (λ t. rw t (ltb-true m.left m.size t)) (λ t. rw t h)
-
-  module _ (left : ℕ) (is : left ≡ left_by m) where
-    pub begin_there : m.begin < left → m.begin ≡ begin_by m
-    unfolding begin_by
-    begin_there h = simp (lt-ltb m.begin (left_by m) (omega (arith, is)))
-
-    pub begin_none : left ≤ m.begin → left ≡ begin_by m
-    unfolding begin_by
-    begin_none h = is ∙ sym (simp (le-ltb m.begin (left_by m) (omega (arith, is))))
 
   pub begin_most : begin_by m ≤ left_by m
   unfolding begin_by

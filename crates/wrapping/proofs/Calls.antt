@@ -14,7 +14,6 @@ use Rattle.rtp.specs.Header.{header_bytes}
 use Rattle.packets.specs.Packets.{is_carried}
 use Rattle.packets.specs.Stored.{line}
 use Rattle.reports.specs.Reports.{longest_report}
-use Rattle.wrapper.specs.declared.Refusal.{Refusal}
 use Rattle.wrapper.specs.declared.Refusal.TheVariants.{BadSize}
 use Rattle.wrapper.specs.Wrap.{is_size, Writer, Waiting, waiting_in, outer_of, full_in, last_of, Outcome, unchanged, giving, wrapped, closed}
 use Rattle.wrapper.proofs.Laws.{size-within}

@@ -8,11 +8,10 @@ use native.Mathlib.Nat.{add-zero, mul-le-mul_left, div-mul-le_self}
 use native.Mathlib.Omega.{arith}
 use borrow.Author.Tests.{eqb-true, eqb-false, eq-eqb, ne_eqb}
 use lib.Dec.{eqb, lit≤}
-use lib.ListN.{length, get_or, take, drop, length-take, length-drop}
-use lib.Seq.{get_or-drop, get_or-take, drop-drop}
+use lib.ListN.{length, take, drop, length-take, length-drop}
+use lib.Seq.{get_or-take, drop-drop}
 use Rattle.octets.proofs.Laws.{either}
 use Rattle.octets.specs.Each.{Each}
-use Rattle.octets.specs.Word.{word}
 use Rattle.text.specs.Text.{text, Put}
 use Rattle.text.proofs.Laws.{put_same}
 use Rattle.rtp.specs.Header.{header_bytes}
@@ -45,9 +44,6 @@ pub form_other : (mark : ℕ) → (mark ≡ mark_of "TI" → ⊥) → (mark ≡ 
 form_other mark stamp packet = simp (ne_eqb mark (mark_of "TI") stamp, ne_eqb mark (mark_of "IP") packet)
 
 -- ---- a timestamp
-
-pub stamp_there : (xs : List ℕ) (at h l : ℕ) → h ≡ word (get_or xs at 0) (get_or xs (at + 1) 0) → l ≡ word (get_or xs (at + 2) 0) (get_or xs (at + 3) 0) → h * 65536 + l ≡ stamp_in (drop at xs)
-stamp_there xs at h l e f = rw (e, f) (simp (get_or-drop, add-zero))
 
 stamp_taken : (n : ℕ) (xs : List ℕ) → stamp_bytes ≤ n → stamp_in (take n xs) ≡ stamp_in xs
 stamp_taken n xs h =

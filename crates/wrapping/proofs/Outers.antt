@@ -1,15 +1,14 @@
 -- Outer packets as records: how the code puts them, and how long they are. Assumes nothing.
 use mathlib.Core.Path.{◌≡◌, refl, sym, ap, ap₂, ◌∙◌}
 use mathlib.Core.List.{List, [], ◌∷◌, ◌++◌, flat_map, append_assoc, append-nil}
-use Prim.Native.Nat.{ℕ, zero, suc, ◌+◌, ◌*◌, ◌-◌, ◌/◌, ◌≤◌, ◌<◌}
+use Prim.Native.Nat.{ℕ, zero, suc, ◌+◌, ◌*◌, ◌/◌, ◌≤◌, ◌<◌}
 use native.Mathlib.Nat.{add-zero, zero-mul, suc-mul, mul-div_cancel}
 use native.Mathlib.Omega.{arith}
 use lib.ListN.{length, take, drop, length-append, length-drop, take-append-drop}
 use lib.Seq.{length-take-le, take_at, drop_at, drop-drop, sets, length-sets}
 use Rattle.octets.specs.Each.{Each}
-use Rattle.octets.specs.Word.{word_bytes}
-use Rattle.octets.proofs.Stores.{sets_behind, sets-append}
-use Rattle.text.specs.Text.{text, Put}
+use Rattle.octets.proofs.Stores.{sets-append}
+use Rattle.text.specs.Text.{Put}
 use Rattle.packets.specs.Stored.{line}
 use Rattle.wrapping.specs.Wrapping.{record_head_bytes, outer_record, outer_records, cut_into}
 

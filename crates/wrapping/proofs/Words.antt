@@ -7,7 +7,7 @@ use Prim.Native.Char.{code}
 use Prim.Native.Nat.{ℕ, suc, ◌+◌, ◌*◌, ◌-◌, ◌≤◌, ◌<◌}
 use native.Mathlib.Numerals.{add-one}
 use native.Mathlib.Omega.{arith}
-use borrow.Author.Tests.{ltb-true, ltb-false, lt-ltb, le-ltb, le-leb, lt-leb, eqb-true}
+use borrow.Author.Tests.{ltb-true, ltb-false, lt-ltb, lt-leb, eqb-true}
 use lib.Dec.{ltb, eqb}
 use lib.ListN.{length, get_or, drop, drop_of_length-le}
 use lib.Seq.{drop-cons}
@@ -20,9 +20,6 @@ use Rattle.wrapping.specs.Words.{is_digit, all_digits, number_from, size_in, cap
 
 pub capped_large : (n : ℕ) → most_size < n → most_size + 1 ≡ capped n
 capped_large n h = simp (lt-ltb most_size n h)
-
-pub capped_small : (n : ℕ) → n ≤ most_size → n ≡ capped n
-capped_small n h = simp (le-ltb most_size n h)
 
 capped_most : (n : ℕ) → capped n ≤ most_size + 1
 capped_most n = either (ltb most_size n) (λ t. rw t (omega arith)) (λ t. rw t (omega (arith, ltb-false most_size n t)))

@@ -1,36 +1,34 @@
--- `chunk_puts::put_services` meets its contract. The loop's invariant: the records that are left are well formed, and what is left, put here,
--- makes the whole that was asked for. The measure is the number of services left. Assumes nothing.
+-- `chunk_puts::put_services` meets its contract. The loop's invariant: what is left, put here, makes the whole that was asked for. Assumes nothing.
 use native.Mathlib.Omega.{arith}
-use mathlib.Core.Path.{refl, sym, ap, ◌∙◌}
-use lib.ListN.{drop}
-use lib.Seq.{sets}
-use Rattle.chunk_puts.proofs.Laws.{service-passes, services_some, services_next, services_none}
+use mathlib.Core.Path.{sym, subst, ◌∙◌}
+use Prim.Native.Nat.{◌*◌}
+use Rattle.meaning.specs.Sizes.{sv_bytes}
+use Rattle.meaning.proofs.Counts.{services_room_lem}
+use Rattle.listing_checks.proofs.Checks.{behind}
+use Rattle.chunk_puts.specs.Laid.{ServiceSaid}
+use Rattle.chunk_puts.proofs.Laws.{services_said, services_next, services_none}
 use Rattle.chunk_puts.proofs.put_services.Goals as goal
 
-pub loop-left-init : goal.loop-left-init
-loop-left-init c = (c.requires.by_index, c.requires.count_in_bounds, refl, refl)
+pub overflow_mul-i : goal.overflow_mul-i
+overflow_mul-i c = omega (arith, services_room_lem c.requires.fit.0 c.args.count c.args.records.now c.requires.fit.1)
 
-pub overflow_add-at : goal.overflow_add-at
-overflow_add-at c = let xs = c.args.listing.now in
-    let l = c.loop-left in
-    let e = l.invariant.0.0 in
-    omega (arith, (service-passes xs l.at e (services_some xs l.at e l.left c.loop-left-test.true l.invariant.0.1).0).room)
+pub slice_bounds-put_service-count : goal.slice_bounds-put_service-count
+slice_bounds-put_service-count c = omega (arith, services_room_lem c.requires.fit.0 c.args.count c.args.records.now c.requires.fit.1)
 
-pub loop-left-preserved : goal.loop-left-preserved
-loop-left-preserved c = let xs = c.args.listing.now in
-    let l = c.loop-left in
-    let some = c.loop-left-test.true in (
-      (l.invariant.0.0, (services_some xs l.at l.invariant.0.0 l.left some l.invariant.0.1).1),
-      omega arith,
-      omega arith,
-      services_next xs l.chunk _ l.at l.to l.left some c.put_service.ensures ∙ l.invariant.3,
-    )
+pub slice_bounds-put_service-start : goal.slice_bounds-put_service-start
+slice_bounds-put_service-start c = omega (arith, services_room_lem c.requires.fit.0 c.args.count c.args.records.now c.requires.fit.1)
+
+pub put_service-requires-clause-said : goal.put_service-requires-clause-said
+put_service-requires-clause-said c = let a = c.args in
+    let i = c.loop-i.i in
+    subst ServiceSaid (sym (behind (sv_bytes * i) a.records.now)) (services_said c.requires.fit.0 a.count a.records.now i c.loop-i-test.true c.requires.fit.1)
+
+pub loop-i-preserved : goal.loop-i-preserved
+loop-i-preserved c = let a = c.args in
+    let l = c.loop-i in
+    services_next a.count l.i a.records.now a.start _ l.chunk _ c.loop-i-test.true (behind (sv_bytes * l.i) a.records.now) c.put_service.ensures ∙ l.invariant
 
 pub returns : goal.returns
-returns c = let l = c.loop-left in
-    sym (ap (sets l.chunk l.to) (services_none (drop l.at c.args.listing.now) l.left c.loop-left-test.false)) ∙ l.invariant.3
-
-pub put_service-requires-clause-by_index : goal.put_service-requires-clause-by_index
-put_service-requires-clause-by_index c = let l = c.loop-left in
-    let e = l.invariant.0.0 in
-    (e, (services_some c.args.listing.now l.at e l.left c.loop-left-test.true l.invariant.0.1).0)
+returns c = let a = c.args in
+    let l = c.loop-i in
+    sym (services_none a.count l.i a.records.now a.start l.chunk c.loop-i-test.false) ∙ l.invariant

@@ -1,38 +1,26 @@
--- `listing_checks::services_fit` meets its contract. The loop's invariant: there is room for the services left, and the tests on them, from here on, are
--- the tests asked for. The measure is the number of services left. Assumes nothing.
-use native.Mathlib.Omega.{arith}
+-- `listing_checks::services_fit` meets its contract. The loop's invariant: the tests on the services left are the tests asked for. Assumes nothing.
 use mathlib.Core.Bool.{◌&&◌}
-use mathlib.Core.Path.{refl, sym, ap₂, ◌∙◌}
-use Rattle.listing_checks.proofs.Checks.{services-short, services_none, services_tests}
+use mathlib.Core.Path.{refl, sym, ap, ap₂, ◌∙◌}
+use native.Mathlib.Omega.{arith}
+use Prim.Native.Nat.{◌*◌}
+use Rattle.meaning.specs.Sizes.{sv_bytes}
+use Rattle.meaning.specs.Said.{sv_fits}
+use Rattle.listing_checks.proofs.Checks.{behind, services-short, services_next, services_none}
 use Rattle.listing_checks.proofs.services_fit.Goals as goal
 
-pub returns-then-listing-from : goal.returns-then-listing-from
-returns-then-listing-from c = let a = c.args in sym (services-short a.listing.now a.from a.ensemble a.count (omega arith))
-
-pub loop-left-init : goal.loop-left-init
-loop-left-init c = (omega arith, refl)
+pub returns-then-records-count : goal.returns-then-records-count
+returns-then-records-count c = let a = c.args in sym (services-short a.ensemble a.count a.records.now (omega arith))
 
 pub returns-then-not-service_fits : goal.returns-then-not-service_fits
 returns-then-not-service_fits c = let a = c.args in
-    let l = c.loop-left in
-    let unfit = sym c.service_fits.ensures ∙ c.if-not-service_fits.true in
-    sym
-    (services_tests a.listing.now l.at a.ensemble l.left c.loop-left-test.true
-    ∙ ap₂ ◌&&◌ unfit refl)
-    ∙ l.invariant.1
+    let unfit = sym (c.service_fits.ensures ∙ ap (sv_fits a.ensemble) (behind (sv_bytes * c.loop-i.i) a.records.now)) ∙ c.if-not-service_fits.true in
+    sym (services_next a.ensemble a.count a.records.now c.loop-i.i c.loop-i-test.true ∙ ap₂ ◌&&◌ unfit refl) ∙ c.loop-i.invariant
 
-pub loop-left-preserved : goal.loop-left-preserved
-loop-left-preserved c = let a = c.args in
-    let l = c.loop-left in
-    let fit = sym c.service_fits.ensures ∙ c.if-not-service_fits.false in (
-      omega arith,
-      sym
-          (services_tests a.listing.now l.at a.ensemble l.left c.loop-left-test.true
-          ∙ ap₂ ◌&&◌ fit refl)
-          ∙ l.invariant.1,
-    )
+pub loop-i-preserved : goal.loop-i-preserved
+loop-i-preserved c = let a = c.args in
+    let fit = sym (c.service_fits.ensures ∙ ap (sv_fits a.ensemble) (behind (sv_bytes * c.loop-i.i) a.records.now)) ∙ c.if-not-service_fits.false in
+    sym (services_next a.ensemble a.count a.records.now c.loop-i.i c.loop-i-test.true ∙ ap₂ ◌&&◌ fit refl) ∙ c.loop-i.invariant
 
 pub returns : goal.returns
 returns c = let a = c.args in
-    let l = c.loop-left in
-    sym (services_none a.listing.now l.at a.ensemble l.left c.loop-left-test.false) ∙ l.invariant.1
+    sym (services_none a.ensemble a.count a.records.now c.loop-i.i c.loop-i-test.false) ∙ c.loop-i.invariant

@@ -5,4 +5,4 @@ use Rattle.lukasembo.proofs.lukasembo_close_step.Goals as goal
 
 pub pack_given-requires : goal.pack_given-requires
 pack_given-requires c = let a = c.args in
-    close-fits _ a.numbers a.since (omega arith) c.unpack_writer-m.ensures a.left.now a.output.now c.close-given.ensures
+    close-fits _ a.numbers a.since (omega arith) c.unpack_writer-before.ensures a.left.now a.output.now c.close.ensures

@@ -5,4 +5,4 @@ use Rattle.lukasembo.proofs.lukasembo_wrap_step.Goals as goal
 
 pub pack_given-requires : goal.pack_given-requires
 pack_given-requires c = let a = c.args in
-    wrap_fits _ a.numbers a.since (omega arith) c.unpack_writer-m.ensures a.left.now a.packet.now a.timestamp a.output.now c.wrap-given.ensures
+    wrap_fits _ a.numbers a.since (omega arith) c.unpack_writer-before.ensures a.left.now a.packet.now a.timestamp a.output.now c.wrap.ensures

@@ -9,8 +9,8 @@ returns-then-packet-lt-HEADER_BYTES c = let a = c.args in sym (plain-short a.kin
 
 pub returns-then-packet : goal.returns-then-packet
 returns-then-packet c = let a = c.args in
-    sym (plain-bytes a.kind a.packet.now c.if-packet-lt-HEADER_BYTES.false ∙ simp (ne_eqb _ 128 c.if-packet.true))
+    sym (plain-bytes a.kind a.packet.now c.if-packet-lt-HEADER_BYTES.false ∙ simp (eq-eqb _ 128 c.if-packet.true))
 
-pub returns : goal.returns
-returns c = let a = c.args in
-    sym (plain-bytes a.kind a.packet.now c.if-packet-lt-HEADER_BYTES.false ∙ simp (eq-eqb _ 128 c.if-packet.false))
+pub returns-else-packet : goal.returns-else-packet
+returns-else-packet c = let a = c.args in
+    simp (ne_eqb _ 128 c.if-packet.false) (sym (plain-bytes a.kind a.packet.now c.if-packet-lt-HEADER_BYTES.false ∙ simp (ne_eqb _ 128 c.if-packet.false)))

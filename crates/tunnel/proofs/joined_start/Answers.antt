@@ -4,10 +4,9 @@ use Rattle.tunnel.proofs.Laws.{joined_few, joined_told}
 use Rattle.tunnel.proofs.joined_start.Goals as goal
 
 pub returns-then-n-lt4 : goal.returns-then-n-lt4
-returns-then-n-lt4 c = let a = c.args in
-    c.start_by.ensures ∙ joined_few a.part.now a.outer.now a.held c.requires.1 a.start c.requires.2 c.requires.3 c.requires.0 c.if-n-lt4.true
+returns-then-n-lt4 c = let a = c.args in c.start_by.ensures ∙ joined_few a.part.now a.more.now c.requires c.if-n-lt4.true
 
 pub returns : goal.returns
 returns c = let a = c.args in
     c.start_by-2.ensures
-    ∙ joined_told a.part.now a.outer.now a.held c.requires.1 a.start c.requires.2 c.requires.3 c.requires.0 _ _ _ c.if-n-lt4.false c.joined_byte-third.ensures c.joined_byte-fourth.ensures c.word_of-total.ensures
+    ∙ joined_told a.part.now a.more.now c.requires _ _ _ c.joined_byte-third.ensures c.joined_byte-fourth.ensures c.from_be_bytes-total.ensures

@@ -1,22 +1,40 @@
 -- `tunnel::read_behind` meets its contract: both halves. Assumes nothing.
+use mathlib.Core.Path.{ap}
 use native.Mathlib.Omega.{arith}
-use lib.ListN.{take, drop, length-drop}
-use Rattle.tunnel.proofs.Laws.{up_to}
-use Rattle.tunnel.proofs.Behind.{before_stored, found_stored, before_held, before_lost, after_lost, behind_gains}
+use Prim.Native.Nat.{◌≤◌}
+use lib.ListN.{length}
+use Rattle.octets.proofs.Stores.{put_mid-sets}
+use Rattle.tunnel.proofs.Laws.{inside}
+use Rattle.tunnel.proofs.Behind.{before_held, before_lost, after_parts, after_room, behind_gains}
 use Rattle.tunnel.proofs.read_behind.Goals as goal
-
-pub returns : goal.returns
-returns c = let a = c.args in
-    behind_gains a.part.now a.outer.now a.held a.start c.requires.held_in_bounds.0 c.requires.held_in_bounds.2 c.requires.held_in_bounds.3 a.marked c.requires.start_value a.out.now _ _ _ _ _ c.read_before-before.ensures _ _ _ _ c.read_from-after.ensures _ c.put.ensures
 
 pub read_from-after-requires : goal.read_from-after-requires
 read_from-after-requires c = let a = c.args in
-    (c.requires.held_in_bounds.3, omega (arith, c.requires.held_in_bounds.4, c.requires.held_in_bounds.5, c.read_before-before.ensures.0, before_stored a.marked (take a.held a.part.now) (up_to a.outer.now a.start), found_stored (drop a.start a.outer.now), length-drop a.start a.outer.now))
+    let h = c.requires.held_in_bounds in
+    let i = inside a.held a.part.now c.told-part h.0 in
+    after_room a.part.now a.payload.now a.held a.start i h.1 a.marked _ _ c.split_at.ensures.front c.split_at.ensures.back _ _ h.2 (omega (arith, h.3, c.read_before-before.auto.out)) (omega (arith, c.read_before-before.ensures.0))
 
-pub overflow_add-running : goal.overflow_add-running
-overflow_add-running c = let a = c.args in
-    omega (arith, c.read_before-before.ensures.2, before_held a.part.now a.outer.now a.held a.start c.requires.held_in_bounds.0 c.requires.held_in_bounds.2 c.requires.held_in_bounds.3 a.marked, c.read_from-after.ensures.2, c.requires.held_in_bounds.4)
+pub slice_bounds-copy_from_slice-end : goal.slice_bounds-copy_from_slice-end
+slice_bounds-copy_from_slice-end c = let a = c.args in
+    let h = c.requires.held_in_bounds in
+    let i = inside a.held a.part.now c.told-part h.0 in
+    omega (arith, after_parts a.part.now a.payload.now a.held a.start i h.1 a.marked _ _ c.split_at.ensures.front c.split_at.ensures.back, ap length c.read_from-after.ensures.2, h.2)
 
-pub overflow_add-lost : goal.overflow_add-lost
-overflow_add-lost c = let a = c.args in
-    omega (arith, c.read_before-before.ensures.4, before_lost a.part.now a.outer.now a.held a.start c.requires.held_in_bounds.0 c.requires.held_in_bounds.2 c.requires.held_in_bounds.3 a.marked, c.read_from-after.ensures.4, after_lost a.part.now a.outer.now a.held a.start c.requires.held_in_bounds.0 c.requires.held_in_bounds.2 c.requires.held_in_bounds.3 a.marked, c.requires.held_in_bounds.0, c.requires.held_in_bounds.1, c.requires.held_in_bounds.4)
+pub overflow_add-result : goal.overflow_add-result
+overflow_add-result c = let a = c.args in
+    let h = c.requires.held_in_bounds in
+    let i = inside a.held a.part.now c.told-part h.0 in
+    omega (arith, c.read_before-before.ensures.2, before_held a.part.now a.payload.now a.held a.start i h.1 a.marked _ _ c.split_at.ensures.front c.split_at.ensures.back, after_parts a.part.now a.payload.now a.held a.start i h.1 a.marked _ _ c.split_at.ensures.front c.split_at.ensures.back, ap length c.read_from-after.ensures.2, h.2)
+
+pub overflow_add-result-2 : goal.overflow_add-result-2
+overflow_add-result-2 c = let a = c.args in
+    let h = c.requires.held_in_bounds in
+    let i = inside a.held a.part.now c.told-part h.0 in
+    omega (arith, c.read_before-before.ensures.4, before_lost a.part.now a.payload.now a.held a.start i h.1 a.marked _ _ c.split_at.ensures.front c.split_at.ensures.back, after_parts a.part.now a.payload.now a.held a.start i h.1 a.marked _ _ c.split_at.ensures.front c.split_at.ensures.back, c.read_from-after.ensures.3, h.0, h.1, h.2)
+
+pub returns : goal.returns
+returns c = let a = c.args in
+    let h = c.requires.held_in_bounds in
+    let i = inside a.held a.part.now c.told-part h.0 in
+    let short : length c.read_from-after.result.running.now ≤ length c.read_before-before.new.part = omega (arith, after_parts a.part.now a.payload.now a.held a.start i h.1 a.marked _ _ c.split_at.ensures.front c.split_at.ensures.back, ap length c.read_from-after.ensures.2, h.2, c.read_before-before.array_long) in
+    behind_gains a.part.now a.payload.now a.held a.start i h.1 a.marked _ _ c.split_at.ensures.front c.split_at.ensures.back c.requires.start_value a.out.now _ _ _ _ _ c.read_before-before.ensures _ _ _ _ c.read_from-after.ensures _ (put_mid-sets 0 _ c.read_before-before.new.part _ c.read_from-after.result.running.now c.copy_from_slice.ensures.after (omega arith) (omega (arith, short)))

@@ -1,10 +1,9 @@
-use Prim.Native.Nat.{◌-◌}
 use lib.ListN.{length}
 use Rattle.tunnel.proofs.From.{Reads}
 use Rattle.tunnel.proofs.read_from.Given as goal
 
-abbrev pub invariant-loop-at : goal.invariant-loop-at
-invariant-loop-at l = Reads l.outer l.start l.initial.out l.to l.out l.at l.end
+abbrev pub invariant-loop-n : goal.invariant-loop-n
+invariant-loop-n l = Reads l.bytes l.initial.out l.to l.out l.rest l.end
 
-abbrev pub decreases-loop-at : goal.decreases-loop-at
-decreases-loop-at l = length l.outer - l.at
+abbrev pub decreases-loop-n : goal.decreases-loop-n
+decreases-loop-n l = length l.rest

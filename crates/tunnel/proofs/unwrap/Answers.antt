@@ -2,7 +2,6 @@
 use mathlib.Core.Path.{sym, ap, ◌∙◌}
 use Rattle.tunnel.specs.Unwrap.{reader, is_repeat}
 use Rattle.tunnel.proofs.Answers.{outer-inside, comes_short, comes_foreign, comes_repeat, comes_accepted, says_unchanged, says_accepted}
-use borrow.Author.Rules.{rules}
 use Rattle.tunnel.proofs.unwrap.Goals as goal
 
 pub returns-then-out-lt-SHORTEST_OUTPUT : goal.returns-then-out-lt-SHORTEST_OUTPUT
@@ -23,7 +22,7 @@ returns-then-eq c = let a = c.args in
 pub accept-requires : goal.accept-requires
 accept-requires c = let a = c.args in
     let i = outer-inside a.outer.now (sym c.is_outer.ensures ∙ c.if-not-is_outer.false) in
-    (search rules, i.0, i.1, c.if-out-lt-SHORTEST_OUTPUT.false)
+    (i.0, i.1, c.if-out-lt-SHORTEST_OUTPUT.false)
 
 pub returns : goal.returns
 returns c = let a = c.args in

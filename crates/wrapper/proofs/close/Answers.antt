@@ -1,14 +1,14 @@
 -- `wrapper::close` meets its contract: by what is left. Assumes nothing.
-use mathlib.Core.Path.{◌≡◌, refl, sym, ap, ◌∙◌}
-use mathlib.Core.List.{List, flat_map}
+use mathlib.Core.Path.{refl, sym, ap, ◌∙◌}
+use mathlib.Core.List.{flat_map}
 use native.Mathlib.Omega.{arith}
-use Prim.Native.Nat.{ℕ, ◌+◌, ◌%◌}
+use Prim.Native.Nat.{ℕ}
 use Rattle.std.proofs.Common.{Ok}
 use lib.ListN.{length}
 use Rattle.octets.proofs.Laws.{bytes_all}
 use Rattle.packets.specs.Stored.{line}
 use Rattle.wrapper.specs.declared.Numbers.{Numbers}
-use Rattle.wrapper.specs.Wrap.{writer, waiting_in, last_of, running, holding, emptied}
+use Rattle.wrapper.specs.Wrap.{writer, emptied}
 use Rattle.wrapper.proofs.Answers.{last_told, none_last, close-stored, close_wrote, close_counts, close_says}
 use Rattle.wrapper.proofs.close.Goals as goal
 

@@ -1,21 +1,10 @@
 -- `wrapper::filled_in` meets its contract. Assumes nothing.
 use mathlib.Core.Path.{sym, ◌∙◌}
 use native.Mathlib.Omega.{arith}
-use borrow.Author.Rules.{rules}
-use Rattle.rtp.specs.Header.{header_bytes}
-use Rattle.wrapper.specs.Wrap.{filled_in, left_by}
 use lib.ListN.{length}
 use Prim.Native.Nat.{◌+◌}
 use Rattle.wrapper.proofs.Answers.{sized_is, carried_most, outers_most}
 use Rattle.wrapper.proofs.filled_in.Goals as goal
-
-pub returns-then-not-is_size : goal.returns-then-not-is_size
-unfolding filled_in
-returns-then-not-is_size c = search rules
-
-pub returns-then-not-is_carried : goal.returns-then-not-is_carried
-unfolding filled_in
-returns-then-not-is_carried c = search rules
 
 pub overflow_add-waiting : goal.overflow_add-waiting
 overflow_add-waiting c =
@@ -36,11 +25,3 @@ overflow_mul-full c =
     let l = carried_most c.args.packet.now (sym c.is_carried.ensures ∙ c.if-not-is_carried.false) in
     let most = outers_most (c.waiting.result + length c.args.packet.now) c.args.numbers.size in
     rw c.full_in-full.ensures (omega arith)
-
-pub returns-then-room-full : goal.returns-then-room-full
-unfolding filled_in
-returns-then-room-full c = search rules
-
-pub returns : goal.returns
-unfolding filled_in
-returns c = search rules
