@@ -1,25 +1,27 @@
 -- A program on two channels: a turn on both, and the end of a run. Assumes nothing.
-use mathlib.Core.Path.{◌≡◌, refl, ◌∙◌}
+use mathlib.Core.Path.{◌≡◌, refl, subst, ◌∙◌}
 use mathlib.Core.Bool.{true, false}
 use mathlib.Core.List.{List}
 use Prim.Native.Nat.{ℕ, ◌+◌, ◌≤◌}
 use native.Mathlib.Omega.{arith}
-use lib.ListN.{length}
+use lib.ListN.{length, take}
 use Rattle.records.specs.declared.Entry.{Entry}
-use Rattle.records.specs.Records.{entry_in, is_whole}
+use Rattle.records.specs.Records.{entry_in, is_whole, last_line}
+use Rattle.records.specs.Transcripts.{Program}
 use Rattle.records.specs.Channels.{Channels, output_of, report_of}
 use Rattle.records.specs.Channels.{Fills as Filled}
 use Rattle.records.proofs.Transcripts.{filled_alike}
-use Rattle.records.proofs.Channels.{Room, output-fits, report-fits}
-use Rattle.programs.specs.Programs.{PutsLast}
+use Rattle.programs.specs.Programs.{alone, PutsLast}
 use Rattle.manners.specs.declared.Sent.{Sent}
 use Rattle.manners.specs.declared.Ending.{Ending}
+use Rattle.manners.specs.declared.Ending.TheVariants.{Over, Spent}
+use Rattle.manners.specs.declared.Ending.TheVariants.{Unheard as EndUnheard, NotRead as EndNotRead, NotWritten as EndNotWritten}
 use Rattle.blocks.specs.declared.Step.{Step}
 use Rattle.blocks.specs.declared.Step.TheVariants.{Next}
 use Rattle.blocks.specs.declared.Unread.{Unread}
-use Rattle.blocks.specs.Blocks.{most_turns, unread, Proceeds, Concludes}
+use Rattle.blocks.specs.Blocks.{most_turns, unread, Proceeds, Concludes, Ends}
 use Rattle.blocks.specs.Channels.{BothSay, LastSaid, RunSays}
-use Rattle.blocks.proofs.Laws.{unread-length, no_more, Fills, put_front, filled_before, filled-inside, turn_says, Keeps, turn_keeps, concluded}
+use Rattle.blocks.proofs.Laws.{unread-length, no_more, Fills, put_front, filled_before, turn_says, Keeps, turn_keeps, concluded}
 
 module _ {S : Type 0} (c : Channels S) where
   -- ---- a turn: the unread part of a block was filled
@@ -40,12 +42,6 @@ module _ {S : Type 0} (c : Channels S) where
     pub read-inside : at ≤ have → have ≤ length old → at + read ≤ have
     read-inside ahead inside =
         filled_before (output_of c) (length out) s t xs out out' read wrote output at have (unread-length old at have ahead inside) ahead
-
-    pub wrote_inside : Room c → wrote ≤ length out'
-    wrote_inside room = filled-inside (output_of c) (length out) s t xs out out' read wrote output (output-fits c room) (omega arith)
-
-    pub told_inside : Room c → length report ≡ length out → told ≤ length report'
-    told_inside room same = filled-inside (report_of c) (length out) s t xs report report' read told lines (report-fits c room) (omega arith)
 
     pub both_say : (e : Entry) → e ≡ entry_in c.forms (unread old (at + read) have) → (sent : Sent) (new : List ℕ) (u : Unread) → Proceeds sent e old at (at + read) have new u → BothSay c s old at have out report t new out' wrote report' told u
     both_say e stands sent new u g =
@@ -72,3 +68,12 @@ module _ {S : Type 0} (c : Channels S) where
   run_says step r turns turns' block at at' have have' out report s g over spent =
       rw (g.2, g.3, g.4)
       (record { state = s; ended = concluded step (entry_in c.forms (unread block at have)) turns r g.0 over spent; last = g.1 })
+
+-- a run of a program that reports nothing and puts the last line last
+module _ {S : Type 0} (p : Program S) (last : (s : S) (e : Entry) → p.last s e ≡ last_line e) where
+  pub run_ends : (r : Ending) (turns : ℕ) (e : Entry) (out report : List ℕ) → RunSays (alone p) r turns e out report → Ends r turns e out
+  run_ends (Over n) turns e out report g = (g.ended.0, g.ended.1, subst (λ (l : List ℕ). take (length l) out ≡ l) (last g.state e) g.last.output)
+  run_ends EndNotRead turns e out report g = g.ended
+  run_ends EndUnheard turns e out report g = tt
+  run_ends EndNotWritten turns e out report g = tt
+  run_ends Spent turns e out report g = g.ended

@@ -127,11 +127,6 @@ module _ (forms : Forms) (old : List ℕ) (at have : ℕ) (ahead : at ≤ have) 
   pub follows : (new : List ℕ) (u : Unread) → Advances e old at have new u → Follows forms old at have new u
   follows new u = subst (λ (k : Entry). Advances k old at have new u) stands-unread
 
-  -- an entry that needs more is shorter than the longest record: there is room for a byte
-  pub room_for_more : (longest : ℕ) → Within longest forms → longest ≤ length old → (e ≡ End) ⊎ (e ≡ Cut) → have - at < length old
-  room_for_more longest within long short =
-      omega (arith, entry_short forms longest (unread old at have) (within (mark_in (unread old at have))) e stands-unread short, unread-length old at have ahead inside)
-
 -- the input is at its end, or could not be read
 abbrev pub no_more : Step → Bool
 no_more Next = false
@@ -194,9 +189,6 @@ module _ {S : Type 0} (p : Program S) (room : ℕ) (s t : S) (xs out after : Lis
   pub filled_before : (at have : ℕ) → length xs ≡ have - at → at ≤ have → at + read ≤ have
   filled_before at have e h = omega (arith, says.1, filled-read p room s xs)
 
-  pub filled-inside : Fits p → room ≤ length out → wrote ≤ length after
-  filled-inside fits h = put_inside (filled p room s xs).text out after wrote says.2 (omega (arith, filled_room p fits room s xs))
-
   module _ (old : List ℕ) (at have : ℕ) (new : List ℕ) (u : Unread) where
     -- what stands behind the records, and what came of writing them
     pub turn_says : (e : Entry) → e ≡ entry_in p.forms (unread old (at + read) have) → (sent : Sent) → Proceeds sent e old at (at + read) have new u → TurnSays p.forms (filled p room s xs) old at have out t new after wrote u
@@ -256,12 +248,6 @@ ends NotRead e turns out r g over spent = rw g (over refl)
 ends Unheard e turns out r g over spent = rw g tt
 ends NotWritten e turns out r g over spent = rw g tt
 
--- so does a run that was finished at a place of its block
-pub run_ends : (forms : Forms) (block : List ℕ) (at have : ℕ) → at ≤ have → have ≤ length block → (e : Entry) → e ≡ entry_in forms (drop at (take have block)) → (step : Step) (turns : ℕ) (out : List ℕ) (r : Ended) → Settles step e out r.ending × (r.turns ≡ turns) × (r.at ≡ at) × (r.have ≡ have) → (no_more step ≡ true → is_whole (entry_in forms (unread block at have)) ≡ false) → (step ≡ Next → turns ≡ most_turns) → Ends r.ending r.turns (entry_in forms (unread block r.at r.have)) out
-run_ends forms block at have ahead inside e stands step turns out r g over spent =
-    rw (g.1, g.2, g.3)
-    (ends step (entry_in forms (unread block at have)) turns out r.ending (subst (λ (k : Entry). Settles step k out r.ending) (stands-unread forms block at have ahead inside e stands) g.0) over spent)
-
 -- whatever stands in the output
 ended : (r : Ending) (turns : ℕ) (e : Entry) (out : List ℕ) → Ends r turns e out → Concluded r turns e
 ended (Over n) turns e out g = (g.0, g.1)
@@ -290,14 +276,3 @@ concluded_status Spent turns e g = tt
 
 pub ends_status : (r : Ending) (turns : ℕ) (e : Entry) (out : List ℕ) → Ends r turns e out → T (among run_statuses (status_of r))
 ends_status r turns e out g = concluded_status r turns e (ended r turns e out g)
-
--- the last line, put to the start of an output
-module _ (e : Entry) (out after : List ℕ) (end : ℕ) (p : Put (last_line e) out 0 after end) (fits : longest_last ≤ length out) where
-  last_fits : length (last_line e) ≤ length out
-  last_fits = omega (arith, length_last e)
-
-  pub last_inside : end ≤ length after
-  last_inside = put_inside (last_line e) out after end p last_fits
-
-  pub last_front : take (length (last_line e)) after ≡ last_line e
-  last_front = put_front (last_line e) out after end p last_fits

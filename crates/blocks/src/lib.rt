@@ -4,15 +4,14 @@
 ghost use Rattle.std.specs.Prelude.{◌≡◌, ◌⊎◌, ◌+◌, ◌-◌, ◌≤◌, ◌<◌, T, length, take, drop};
 ghost use Rattle.octets.specs.Checks.{among};
 ghost use Rattle.manners.specs.Manners.{status_of};
-ghost use Rattle.records.specs.Records.{longest_last, entry_in};
+ghost use Rattle.records.specs.Records.{entry_in};
 ghost use Rattle.programs.specs.Programs.{Tellable};
-ghost use Rattle.blocks.specs.Blocks.{unread as Blocks·unread, step_after, Refilled, Advances, Proceeds, stops_at, Concludes, Settles, run_statuses};
+ghost use Rattle.blocks.specs.Blocks.{unread as Blocks·unread, step_after, Refilled, Advances, Proceeds, stops_at, Concludes, run_statuses};
 ghost use Rattle.blocks.specs.Channels.{BothSay, LastSaid, RunSays};
 
 use manners::{Came, Ending, Sent};
 use programs::Program;
 use records::Entry;
-use std::io;
 use std::io::{Read, Write};
 
 // What a turn leaves to be done.
@@ -80,11 +79,7 @@ fn refill<R: Read>(from: &mut R, block: &mut [u8], at: usize, have: usize) -> Un
 fn stay(at: usize, have: usize, step: Step) -> Unread
     ensures { (result.at ≡ at) × (result.have ≡ have) × (result.step ≡ step) }
 {
-    Unread {
-        at: at,
-        have: have,
-        step: step,
-    }
+    Unread { at, have, step }
 }
 
 // What follows at a place of the block where this entry stands, the records before it being printed: a record waits there, or more has to be
@@ -161,15 +156,6 @@ pub fn conclude<W: Write, V: Write>(
     }
 }
 
-// The same with the last line, which is put to the start of the output.
-pub fn settle<W: Write>(step: Step, entry: Entry, out: &mut [u8], to: &mut W) -> Ending
-    requires { longest_last ≤ length out.old }
-    ensures { Settles step entry out.new result }
-{
-    let n = records::put_last(entry, out);
-    conclude(step, entry, &out[..n], to, b"", &mut io::sink())
-}
-
 // After a run: how it ended, after how many turns, and where in the block.
 #[derive(Clone, Copy)]
 pub struct Ended {
@@ -177,28 +163,6 @@ pub struct Ended {
     pub turns: u64,
     pub at: usize,
     pub have: usize,
-}
-
-// Ends a run after so many turns, at a place of the block where this entry stands.
-pub fn finish<W: Write>(
-    step: Step,
-    entry: Entry,
-    turns: u64,
-    at: usize,
-    have: usize,
-    out: &mut [u8],
-    to: &mut W,
-) -> Ended
-    requires { longest_last ≤ length out.old }
-    ensures { Settles step entry out.new result.ending × (result.turns ≡ turns) × (result.at ≡ at) × (result.have ≡ have) }
-{
-    let ending = settle(step, entry, out, to);
-    Ended {
-        ending: ending,
-        turns: turns,
-        at: at,
-        have: have,
-    }
 }
 
 // ---- a run of a program
@@ -236,11 +200,15 @@ fn turn<P: Program, R: Read, W: Write, V: Write>(
     let entry = programs::entry_at::<P>(&block[..have], next);
     let sent = manners::write_both(to, &out[..wrote], aside, &report[..told]);
     let unread = proceed(sent, from, block, at, next, have, entry);
-    Turned { wrote, told, unread }
+    Turned {
+        wrote,
+        told,
+        unread,
+    }
 }
 
 // Ends a run at a step: what comes last is put, and written if no more can come.
-fn close<P: Program, W: Write, V: Write>(
+fn finish<P: Program, W: Write, V: Write>(
     program: &mut P,
     step: Step,
     turns: u64,
@@ -260,8 +228,20 @@ fn close<P: Program, W: Write, V: Write>(
 {
     let entry = programs::entry_at::<P>(&block[..have], at);
     let put = program.put_last(entry, out, report);
-    let ending = conclude(step, entry, &out[..put.wrote], to, &report[..put.told], aside);
-    Ended { ending, turns, at, have }
+    let ending = conclude(
+        step,
+        entry,
+        &out[..put.wrote],
+        to,
+        &report[..put.told],
+        aside,
+    );
+    Ended {
+        ending,
+        turns,
+        at,
+        have,
+    }
 }
 
 // Runs a program on a file that is read through the lent block. Internal.
@@ -282,16 +262,30 @@ pub fn run<P: Program, R: Read, W: Write, V: Write>(
     let mut at = 0;
     let mut have = 0;
     let mut turns = 0u64;
+    // Stays: (d) the count is handed out and said to be that of the turns, which the variable of a `for` is not.
     while turns < u64::MAX {
         turns += 1;
         let u = turn(program, block, at, have, out, report, from, to, aside).unread;
         at = u.at;
         have = u.have;
         if stops(u.step) {
-            return close(program, u.step, turns, block, at, have, out, report, to, aside);
+            return finish(
+                program, u.step, turns, block, at, have, out, report, to, aside,
+            );
         }
     }
-    close(program, Step::Next, turns, block, at, have, out, report, to, aside)
+    finish(
+        program,
+        Step::Next,
+        turns,
+        block,
+        at,
+        have,
+        out,
+        report,
+        to,
+        aside,
+    )
 }
 
 // The same with an output of its own; how the run ended. Internal.

@@ -1,26 +1,19 @@
 -- The records of an explained log: none has more than 65,539 bytes, each keeps the desk well formed, and its lines have room. Assumes nothing.
-use mathlib.Core.Path.{◌≡◌, refl, sym}
-use mathlib.Core.Bool.{true, not, true≢false}
+use mathlib.Core.Path.{◌≡◌, refl}
+use mathlib.Core.Bool.{not}
 use mathlib.Core.List.{List, [], ◌∷◌, ◌++◌}
 use Prim.Native.Nat.{ℕ, ◌+◌, ◌-◌, ◌*◌, ◌^◌, ◌≤◌, ◌<◌}
 use native.Mathlib.Omega.{arith}
 use lib.Dec.{eqb}
-use lib.ListN.{length, drop, length-append, length-take, length-drop}
+use lib.ListN.{length, length-append, length-take, length-drop}
 use Rattle.std.proofs.Common.{Result, Ok, Err, Option, None, Some}
 use Rattle.octets.specs.Tables.{before, first_not_whole}
 use Rattle.octets.proofs.Laws.{either, cond_both}
 use Rattle.octets.proofs.Tables.{not_whole_before, number_small}
 use Rattle.text.specs.Text.{text, decimal, numbered}
 use Rattle.text.proofs.Laws.{length-decimal, length-numbered}
-use Rattle.records.specs.declared.Form.{Form}
-use Rattle.records.specs.declared.Form.TheVariants.{Foreign, Fixed, Counted}
-use Rattle.records.specs.declared.Entry.{Entry}
-use Rattle.records.specs.declared.Entry.TheVariants.{End, Whole, Unknown, Cut}
-use Rattle.records.specs.Records.{mark_bytes, length_bytes, mark_of, mark_in, entry_in, is_whole, size_of, Record, record_in, body_in, form_bytes}
-use Rattle.records.specs.Transcripts.{text_in, filled}
-use Rattle.records.proofs.Entries.{allowed, size_by, count_within, Within}
-use Rattle.records.proofs.Counted.{whole_told}
-use Rattle.records.proofs.Transcripts.{filled_cases, cost-text}
+use Rattle.records.specs.Records.{length_bytes, mark_of, Record, body_in}
+use Rattle.records.proofs.Entries.{Within}
 use Rattle.programs.specs.Programs.{Holds}
 use Rattle.programs.proofs.Filling.{holds-short}
 use Rattle.meaning.specs.declared.Kind.{Kind}

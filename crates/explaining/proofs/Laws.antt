@@ -1,35 +1,23 @@
 -- The records of an explained log in the code's own terms: what each leaves, and what a loop from record to record has done. Assumes nothing.
-use mathlib.Core.Path.{◌≡◌, refl, sym, ap, subst, ◌∙◌}
+use mathlib.Core.Path.{◌≡◌, refl, sym, ◌∙◌}
 use mathlib.Core.Bool.{false}
 use mathlib.Core.List.{List, ◌++◌, append-nil}
-use Prim.Native.Nat.{ℕ, ◌+◌, ◌-◌, ◌≤◌, ◌<◌}
-use native.Mathlib.Nat.{add-zero, sub-zero}
-use native.Mathlib.Omega.{arith}
+use Prim.Native.Nat.{ℕ}
 use borrow.Author.Tests.{ne_eqb}
-use lib.ListN.{length, take, drop, length-take, length-drop}
+use lib.ListN.{drop}
 use Rattle.text.specs.declared.Output.{Output}
 use Rattle.text.specs.Output.{Adds}
 use Rattle.text.proofs.Adds.{adds_same}
-use Rattle.records.specs.declared.Entry.{Entry}
-use Rattle.records.specs.declared.Entry.TheVariants.{Whole}
-use Rattle.records.specs.Records.{mark_bytes, length_bytes, mark_of, mark_in, entry_in, is_whole, size_of, Record, record_in}
-use Rattle.records.specs.Transcripts.{Filled, filled, Turned}
-use Rattle.records.proofs.Entries.{whole_some}
-use Rattle.records.proofs.Counted.{whole_told, whole_counted}
-use Rattle.records.proofs.Transcripts.{none_size}
-use Rattle.records.proofs.Filling.{Goes, goes_start, full_stops, turned_keeps, turned-inside, turned_less, turned-length, turned_left, turned_goes, turned_stops}
+use Rattle.records.specs.Records.{length_bytes, mark_of, Record}
 use Rattle.segments.specs.Segment.{segment_kind}
-use Rattle.notes.specs.declared.Notes.{Notes}
-use Rattle.desk.specs.Desks.{desk, segment_after}
-use Rattle.desk.specs.Calls.{State, state, wholly, answer_to, shown_in, left_by, Ready}
+use Rattle.desk.specs.Desks.{segment_after}
+use Rattle.desk.specs.Calls.{State, state, wholly, answer_to, shown_in, left_by}
 use Rattle.effects.proofs.Calls.{lent_whole, left_whole}
 use Rattle.lines.specs.Lines.{answer_lines}
 use Rattle.replay.specs.Log.{log_form, call_of, log_program, CallSays}
-use Rattle.replay.proofs.Laws.{filled_is}
 use Rattle.std.proofs.Common.{None}
 use Rattle.explain_lines.specs.Lines.{explained_line, chunk_lines}
-use Rattle.explaining.specs.Explained.{explain_form, under_segment, under_call, longest_text, is_chunk, explain_program, RecordSays, FillSays}
-use Rattle.explaining.proofs.Fits.{text-fits, explain_ready}
+use Rattle.explaining.specs.Explained.{explain_form, under_segment, under_call, is_chunk, RecordSays}
 
 -- ---- a record by its mark
 

@@ -96,7 +96,7 @@ fn explain_held(kind: Kind, desk: &Desk) -> Option<Explained>
     }
 }
 
-// Only a refusal is explained: what was explained before, or else that chunk.
+// Only a refusal is explained: by what was explained before, or else by that chunk.
 fn explain_answer(
     answer: Result<Answer, Refusal>,
     before: Option<Explained>,

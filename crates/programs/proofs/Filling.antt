@@ -6,8 +6,8 @@ use mathlib.Core.Logic.{◌⊎◌, inl, inr}
 use Prim.Native.Nat.{ℕ, ◌+◌, ◌-◌, ◌≤◌, ◌<◌}
 use native.Mathlib.Omega.{arith}
 use lib.ListN.{length, take, drop, length-take, length-drop}
-use lib.Seq.{drop-drop}
-use Rattle.octets.proofs.Laws.{either}
+use lib.Seq.{drop-drop, length-sets}
+use Rattle.text.specs.Text.{Put}
 use Rattle.records.specs.declared.Form.{Form}
 use Rattle.records.specs.declared.Form.TheVariants.{Foreign, Fixed, Counted}
 use Rattle.records.specs.declared.Entry.{Entry}
@@ -20,7 +20,7 @@ use Rattle.records.proofs.Counted.{whole_told, whole_counted}
 use Rattle.records.proofs.Transcripts.{filled_stop}
 use Rattle.records.proofs.Filling.{Goes, goes_start, goes_end, full_stops, turned-inside, turned_less, turned-length, turned_goes}
 use Rattle.records.proofs.Channels.{turns_whole}
-use Rattle.programs.specs.Programs.{Holds, Tellable, Takes}
+use Rattle.programs.specs.Programs.{Holds, Takes}
 
 pub not_whole : {e : Entry} → (e ≡ End) ⊎ ((e ≡ Unknown) ⊎ (e ≡ Cut)) → is_whole e ≡ false
 not_whole (inl h) = ap is_whole h
@@ -168,3 +168,9 @@ module _ {S : Type 0} (c : Channels S) where
                 stores = turned_goes p file out out' at to (at + size) to' s t output-turned out₀ f₀ left d.stores room moved (length out' - (to' + told')) rest;
                 tells = turned_goes q file report report' at told (at + size) told' s t report-turned report₀ g₀ left d.tells room moved (length out' - (to' + told')) rest;
               }
+
+-- a record of which both texts were put, in a report that has room
+module _ {S : Type 0} (c : Channels S) where
+  pub takes_both : {s : S} {r : Record} {out : List ℕ} {to : ℕ} {report : List ℕ} {told : ℕ} {t : S} {out' : List ℕ} {to' : ℕ} {report' : List ℕ} {told' : ℕ} → t ≡ c.next s r → Put (c.text s r) out to out' to' → Put (c.report s r) report told report' told' → length (c.text s r) + length (c.report s r) ≤ c.longest → told + c.longest ≤ length report → Takes c s r out to report told t out' to' report' told'
+  takes_both {s = s} {r = r} {report = report} {told = told} left stores tells fits room =
+      record { left = left; stores = stores; tells = tells; fits = fits; inside = omega (arith, tells.0, ap length tells.1, length-sets report told (c.report s r)) }

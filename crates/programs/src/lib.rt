@@ -89,12 +89,7 @@ pub fn entry_at<P: Program>(file: &[u8], at: usize) -> Entry
 }
 
 // The whole records at the start of a block of the file, as many as the output has room for; the report shares that room.
-pub fn fill<P: Program>(
-    program: &mut P,
-    file: &[u8],
-    out: &mut [u8],
-    report: &mut [u8],
-) -> Filled
+pub fn fill<P: Program>(program: &mut P, file: &[u8], out: &mut [u8], report: &mut [u8]) -> Filled
     requires ready { P.Ready program.old }
     requires tellable { Tellable P.reports 0 (length out.old) report.old }
     ensures fills { Fills P.channels (P.seen program.old) file.now out.old report.old (P.seen program.new) result.read out.new result.wrote report.new result.told }
@@ -109,7 +104,14 @@ pub fn fill<P: Program>(
         match records::entry_at(file, read, P::form_of(mark)) {
             Entry::Whole(size) => {
                 let next = read + size;
-                let put = program.take(mark, &file[read + MARK_BYTES..next], out, wrote, report, told);
+                let put = program.take(
+                    mark,
+                    &file[read + MARK_BYTES..next],
+                    out,
+                    wrote,
+                    report,
+                    told,
+                );
                 read = next;
                 wrote = put.wrote;
                 told = put.told;

@@ -79,7 +79,13 @@ impl Replay {
         desk::clear(notes, &mut self.desk.bytes);
         let after = notes.frame();
         self.desk.notes = after;
-        let listing = notes::part(Kind::This, after.swapped, after.shown, &self.first, &self.second);
+        let listing = notes::part(
+            Kind::This,
+            after.swapped,
+            after.shown,
+            &self.first,
+            &self.second,
+        );
         lines::put_frame(listing, out);
     }
 
@@ -105,7 +111,13 @@ impl Replay {
         ensures put { Adds (answer_lines (segment_after self.old.desk seg.now self.old.first self.old.second).answer (shown (segment_kind seg.now) self.new.desk self.new.first self.new.second)) out.old out.new }
     {
         let notes = self.desk.notes;
-        let driven = desk::drive(notes, &mut self.desk.bytes, seg, &mut self.first, &mut self.second);
+        let driven = desk::drive(
+            notes,
+            &mut self.desk.bytes,
+            seg,
+            &mut self.first,
+            &mut self.second,
+        );
         let after = driven.notes;
         self.desk.notes = after;
         let answer = driven.answer;

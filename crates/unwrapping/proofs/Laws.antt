@@ -93,25 +93,6 @@ module _ (m : Numbers) (part outer out : List ℕ) (to : ℕ) (room : to + short
         tells = put_same report told (ap₂ (λ (k : ℕ) (w : Values). report_line (text "OP") k (sayings w)) next same) put;
       }
 
--- ---- a record of the file
-
--- where one is whole, its length is behind its mark, and it lies inside
-pub record_there : (file : List ℕ) (at size : ℕ) → at ≤ length file → Whole size ≡ entry_in outer_form (drop at file) → (mark_bytes + length_bytes ≤ size) × (at + size ≤ length file)
-record_there file at size inside stands =
-    let told = whole_marked (mark_of "OP") (Counted 0 65535) (drop at file) size stands in
-    let t = counted_there file at size outer_form 0 65535 told inside stands in
-    (t.0, t.2)
-
--- what it leaves, once its body was given to the reader
-pub fed_turns : (s : State) (xs : List ℕ) (at : ℕ) (out : List ℕ) (to : ℕ) (report : List ℕ) (told size : ℕ) → Whole size ≡ entry_in outer_form xs → (outer : List ℕ) (t : State) (out' : List ℕ) (to' : ℕ) (report' : List ℕ) (told' : ℕ) → outer ≡ body_in (record_in size xs) → FedTo s outer out to report told t out' to' report' told' → Turns unwrap_channels s xs at out to report told t (at + size) out' to' report' told'
-fed_turns s xs at out to report told size stands outer t out' to' report' told' body fed =
-    let f : FedTo s (body_in (record_in size xs)) out to report told t out' to' report' told' = subst (λ (o : List ℕ). FedTo s o out to report told t out' to' report' told') body fed in
-    turns_whole unwrap_channels s xs at out to report told (Whole size) stands refl (record_in size xs) t (at + size) out' to' report' told' refl f.left refl f.stores f.tells
-
--- numbers that are the same, with one part
-pub same_state : {m n : Numbers} (part : List ℕ) {j k : ℕ} → m ≡ n → j ≡ k → state m part j ≡ state n part k
-same_state part e f = λ i. state (e i) part (f i)
-
 -- ---- the room that both texts of a record take
 
 report-short : (s : State) (outer : List ℕ) → length (report_text s outer) ≤ longest_report

@@ -1,5 +1,5 @@
 -- Laws of the program `wrap`, record by record. Assumes nothing.
-use mathlib.Core.Path.{◌≡◌, refl, sym, ap, ap₂, ◌∙◌}
+use mathlib.Core.Path.{◌≡◌, refl, sym, ap, ap₂, subst, ◌∙◌}
 use mathlib.Core.Bool.{true, false, true≢false}
 use mathlib.Core.List.{List, flat_map}
 use Rattle.std.proofs.Common.{Result}
@@ -17,7 +17,10 @@ use Rattle.text.proofs.Laws.{put_same}
 use Rattle.rtp.specs.Header.{header_bytes}
 use Rattle.packets.specs.Packets.{shortest_packet, longest_packet}
 use Rattle.packets.specs.Stored.{line}
-use Rattle.records.specs.declared.Form.TheVariants.{Foreign, Fixed}
+use Rattle.records.specs.declared.Form.{Form}
+use Rattle.records.specs.declared.Form.TheVariants.{Foreign, Counted}
+use Rattle.programs.specs.Programs.{Holds, Takes}
+use Rattle.programs.proofs.Filling.{takes_both}
 use Rattle.records.specs.declared.Entry.TheVariants.{Whole}
 use Rattle.records.specs.Records.{mark_bytes, length_bytes, mark_in, mark_of, entry_in, size_of, Record, record_in, body_in}
 use Rattle.records.specs.Channels.{output_of, Turns}
@@ -139,53 +142,6 @@ module _ (m : Numbers) (bytes scratch : List ℕ) (most : m.size ≤ most_size) 
     pub close_says : (v.wrote ≡ 0 → ⊥) → (out out' : List ℕ) (r : ℕ) → Put (outer_records (cut_into 1 v.wrote scratch')) out 0 out' r → Put (outer_records (closing (writer m bytes)).outers) out 0 out' r
     close_says some out out' r = put_same out 0 (ap outer_records (one.only some ∙ last_like.outers))
 
--- ---- the state, by its numbers
-
-pub same_state : {m m' : Numbers} {bytes : List ℕ} {stamp stamp' count count' : ℕ} → m ≡ m' → stamp ≡ stamp' → count ≡ count' → state m bytes stamp count ≡ state m' bytes stamp' count'
-same_state {bytes = bytes} e f g = λ i. state (e i) bytes (f i) (g i)
-
--- ---- a record of the file
-
-module _ (file : List ℕ) (at size : ℕ) (stands : Whole size ≡ entry_in wrap_form (drop at file)) where
-  abbrev xs : List ℕ
-  xs = drop at file
-
-  pub whole_inside : at ≤ length file → at + size ≤ length file
-  whole_inside inside = omega (arith, ap size_of stands, size-inside wrap_form xs, length-drop at file)
-
-  -- a timestamp
-  pub stamp-size : mark_in (drop at file) ≡ mark_of "TI" → size ≡ mark_bytes + stamp_bytes
-  stamp-size marked = (whole_told wrap_form xs size stands (Fixed stamp_bytes) (ap wrap_form marked)).1
-
-  -- or else a packet, with its length
-  pub packet_size : (mark_in (drop at file) ≡ mark_of "TI" → ⊥) → mark_bytes + length_bytes ≤ size
-  packet_size other =
-      either (eqb (mark_in xs) (mark_of "IP"))
-      (λ t. omega (arith, whole_counted wrap_form xs size stands shortest_packet longest_packet (ap wrap_form (eqb-true (mark_in xs) (mark_of "IP") t))))
-      (λ t. absurd (true≢false (sym (whole_told wrap_form xs size stands Foreign (sym (form_other (mark_in xs) other (eqb-false (mark_in xs) (mark_of "IP") t)))).0)))
-
-  module _ (s : State) (out : List ℕ) (to : ℕ) (report : List ℕ) (told : ℕ) where
-    pub turned-stamp : mark_in (drop at file) ≡ mark_of "TI" → (stamp : ℕ) → stamp ≡ stamp_in (drop (at + mark_bytes) file) → (t : State) (read to' told' : ℕ) → t ≡ state s.writer.numbers s.writer.bytes stamp (following s.count) → read ≡ at + size → to' ≡ to → told' ≡ told → Turns wrap_channels s (drop at file) at out to report told t read out to' report told'
-    turned-stamp marked stamp is t read to' told' left place wrote line =
-        let r : Record = record_in size xs in
-        let stamped : is_stamp r ≡ true = eq-eqb (mark_in xs) (mark_of "TI") marked in
-        let same : stamp ≡ stamp_in r.content =
-        is
-        ∙ ap stamp_in (sym (drop-drop mark_bytes at file))
-        ∙ sym (stamp_taken (size - mark_bytes) (drop mark_bytes xs) (omega (arith, stamp-size marked))) in
-        turns_whole wrap_channels s xs at out to report told (Whole size) stands refl r t read out to' report told' refl
-        (rw stamped (left ∙ ap (λ (n : ℕ). state s.writer.numbers s.writer.bytes n (following s.count)) same)) place
-        (rw stamped (wrote ∙ sym (add-zero to), refl)) (rw stamped (line ∙ sym (add-zero told), refl))
-
-    pub turned_packet : (mark_in (drop at file) ≡ mark_of "TI" → ⊥) → (packet : List ℕ) → packet ≡ body_in (record_in size (drop at file)) → (t₁ : State) (out' : List ℕ) (to₁ : ℕ) (report' : List ℕ) (told₁ : ℕ) → FedTo s packet out to report told t₁ out' to₁ report' told₁ → (t : State) (read to' told' : ℕ) → t ≡ t₁ → read ≡ at + size → to' ≡ to₁ → told' ≡ told₁ → Turns wrap_channels s (drop at file) at out to report told t read out' to' report' told'
-    turned_packet other packet body t₁ out' to₁ report' told₁ fed t read to' told' left place wrote line =
-        let r : Record = record_in size xs in
-        let unstamped : is_stamp r ≡ false = ne_eqb (mark_in xs) (mark_of "TI") other in
-        let f : FedTo s (body_in r) out to report told t₁ out' to₁ report' told₁ = rw body at fed in
-        turns_whole wrap_channels s xs at out to report told (Whole size) stands refl r t read out' to' report' told' refl
-        (rw unstamped (left ∙ f.left)) place
-        (rw unstamped (wrote ∙ f.stores.0, f.stores.1)) (rw unstamped (line ∙ f.tells.0, f.tells.1))
-
 -- ---- many records
 
 pub both_fit : Room wrap_channels
@@ -198,10 +154,31 @@ both_fit s r =
     (λ t. rw t (omega (arith, said-short, write-records s.writer packet s.stamp long_output)))
 
 -- the size stays
-next_size : (n : ℕ) (s : State) (r : Record) → s.writer.numbers.size ≡ n → (next_state s r).writer.numbers.size ≡ n
+pub next_size : (n : ℕ) (s : State) (r : Record) → s.writer.numbers.size ≡ n → (next_state s r).writer.numbers.size ≡ n
 next_size n s r e = either (is_stamp r) (λ t. rw t e) (λ t. rw t (write-size s.writer (body_in r) s.stamp long_output ∙ e))
 
-pub turned-size : (s : State) (file : List ℕ) (at : ℕ) (out : List ℕ) (to : ℕ) (report : List ℕ) (told : ℕ) (t : State) (read : ℕ) (out' : List ℕ) (to' : ℕ) (report' : List ℕ) (told' : ℕ) → Turns wrap_channels s (drop at file) at out to report told t read out' to' report' told' → t.writer.numbers.size ≡ s.writer.numbers.size
-turned-size s file at out to report told₀ t read out' to' report' told' turn =
-    let n : ℕ = s.writer.numbers.size in
-    turned_keeps (output_of wrap_channels) file out out' at to read to' s t (turn.left, turn.place, turn.stores) (λ x. x.writer.numbers.size ≡ n) (next_size n) refl
+-- ---- a record of the file
+
+-- a packet stands behind its length
+pub packet_long : (mark : ℕ) (content : List ℕ) → (mark ≡ mark_of "TI" → ⊥) → Holds (wrap_form mark) content → length_bytes ≤ length content
+packet_long mark content other holds =
+    either (eqb mark (mark_of "IP"))
+    (λ t.
+    let h : Holds (Counted shortest_packet longest_packet) content = rw (ne_eqb mark (mark_of "TI") other, t) at holds in
+    omega (arith, h.0))
+    (λ t. absurd (subst (λ (f : Form). Holds f content) (sym (form_other mark other (eqb-false mark (mark_of "IP") t))) holds))
+
+module _ (s : State) (mark : ℕ) (content out : List ℕ) (to : ℕ) (report : List ℕ) (told : ℕ) (room : told + longest_output ≤ length report) where
+  abbrev r : Record
+  r = record { mark = mark; content = content }
+
+  pub stamp_takes : mark ≡ mark_of "TI" → (stamp : ℕ) → stamp ≡ stamp_in content → (count : ℕ) → count ≡ following s.count → Takes wrap_channels s (record { mark = mark; content = content }) out to report told (state s.writer.numbers s.writer.bytes stamp count) out to report told
+  stamp_takes marked stamp is count next =
+      let stamped : is_stamp r ≡ true = eq-eqb mark (mark_of "TI") marked in
+      takes_both wrap_channels (rw stamped (λ i. state s.writer.numbers s.writer.bytes (is i) (next i))) (rw stamped (sym (add-zero to), refl)) (rw stamped (sym (add-zero told), refl)) (both_fit s r) room
+
+  pub packet_takes : (mark ≡ mark_of "TI" → ⊥) → (packet : List ℕ) → packet ≡ drop length_bytes content → {t : State} {out' : List ℕ} {to' : ℕ} {report' : List ℕ} {told' : ℕ} → FedTo s packet out to report told t out' to' report' told' → Takes wrap_channels s (record { mark = mark; content = content }) out to report told t out' to' report' told'
+  packet_takes other packet is {t} {out'} {to'} {report'} {told'} fed =
+      let unstamped : is_stamp r ≡ false = ne_eqb mark (mark_of "TI") other in
+      let f : FedTo s (drop length_bytes content) out to report told t out' to' report' told' = subst (λ (p : List ℕ). FedTo s p out to report told t out' to' report' told') is fed in
+      takes_both wrap_channels (rw unstamped f.left) (rw unstamped f.stores) (rw unstamped f.tells) (both_fit s r) room

@@ -1,2 +1,3 @@
 pub mod Wrapping
 pub mod Words
+pub mod Seen

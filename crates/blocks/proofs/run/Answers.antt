@@ -5,8 +5,8 @@ use Rattle.blocks.specs.Blocks.{stops_at}
 use Rattle.blocks.proofs.Channels.{both_keep, run_says}
 use Rattle.blocks.proofs.run.Goals as goal
 
-pub close-requires-clause-at_le_have : goal.close-requires-clause-at_le_have
-close-requires-clause-at_le_have g c =
+pub finish-requires-clause-at_le_have : goal.finish-requires-clause-at_le_have
+finish-requires-clause-at_le_have g c =
     let k = both_keep g.P.Program.channels c.turn.ensures.both_say c.loop-turns.invariant.ahead c.loop-turns.invariant.inside in
     (k.ahead, k.inside)
 
@@ -14,7 +14,7 @@ pub returns-then-stops : goal.returns-then-stops
 returns-then-stops g c =
     let t = c.turn in
     let k = both_keep g.P.Program.channels t.ensures.both_say c.loop-turns.invariant.ahead c.loop-turns.invariant.inside in
-    run_says g.P.Program.channels t.result.unread.step c.close.result.ending _ _ t.new.block t.result.unread.at _ t.result.unread.have _ c.close.new.out c.close.new.report (g.P.Program.seen t.new.program) c.close.ensures k.over
+    run_says g.P.Program.channels t.result.unread.step c.finish.result.ending _ _ t.new.block t.result.unread.at _ t.result.unread.have _ c.finish.new.out c.finish.new.report (g.P.Program.seen t.new.program) c.finish.ensures k.over
     (λ e. absurd (true≢false (sym c.if-stops.true ∙ c.stops.ensures ∙ ap stops_at e)))
 
 pub loop-turns-preserved : goal.loop-turns-preserved

@@ -1,5 +1,6 @@
 -- `explaining::Explain::segment` meets its contract: the lines of its answer, and the explanation under them. Assumes nothing.
 use mathlib.Core.Path.{ap}
+use Rattle.std.proofs.Common.{Option}
 use native.Mathlib.Omega.{arith}
 use mathlib.Core.List.{◌++◌}
 use Rattle.std.proofs.Common.{Option}

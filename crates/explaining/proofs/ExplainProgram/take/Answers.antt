@@ -3,8 +3,7 @@ use Rattle.std.proofs.Common.{rules, sym, subst}
 use Rattle.desk.specs.Calls.{Ready}
 use Rattle.programs.proofs.Alone.{takes_alone}
 use Rattle.replay.specs.Seen.{seen}
-use Rattle.explaining.specs.Explained.{explain_form, explain_program}
-use Rattle.programs.specs.Programs.{Holds}
+use Rattle.explaining.specs.Explained.{explain_program}
 use Rattle.explaining.proofs.Fits.{record-short, record_fits, explain_ready}
 use Rattle.explaining.proofs.ExplainProgram.take.Goals as goal
 
