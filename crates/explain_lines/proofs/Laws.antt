@@ -1,12 +1,10 @@
 -- Four texts put one after the other; how long a field's name and a chunk's line may be. Assumes nothing.
 use mathlib.Core.Path.{◌≡◌, sym}
-use mathlib.Core.List.{List, ◌++◌}
+use mathlib.Core.List.{List}
 use Prim.Native.Nat.{ℕ, ◌≤◌}
 use native.Mathlib.Omega.{arith}
 use lib.ListN.{length}
 use Rattle.std.proofs.Common.{Result, Ok, Err}
-use Rattle.text.specs.Text.{Put}
-use Rattle.text.proofs.Laws.{put_both}
 use Rattle.meaning.specs.Reading.{checks}
 use Rattle.meaning.proofs.Ends.{told_small}
 use Rattle.lines.specs.Lines.{longest_lines}
@@ -16,10 +14,6 @@ use Rattle.explains.specs.declared.Field.{Field}
 use Rattle.explains.specs.declared.Field.TheVariants.{Length, Row, Payload}
 use Rattle.explain_lines.specs.Lines.{field_name, checked_line}
 use Rattle.meaning.specs.declared.Refusal.{Refusal}
-
-pub put_four : (a b c d l : List ℕ) (to : ℕ) {m n o p : List ℕ} {e f g h : ℕ} → Put a l to m e → Put b m e n f → Put c n f o g → Put d o g p h → Put (a ++ (b ++ (c ++ d))) l to p h
-put_four a b c d l to {m} {n} {o} {p} {e} {f} {g} {h} one two three four =
-    put_both a (b ++ (c ++ d)) l to one (put_both b (c ++ d) m e two (put_both c d n f three four))
 
 pub field-short : (field : Field) → length (field_name field) ≤ 37
 field-short Length = omega arith

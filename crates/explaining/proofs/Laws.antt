@@ -5,8 +5,9 @@ use mathlib.Core.List.{List, ◌++◌, append-nil}
 use Prim.Native.Nat.{ℕ}
 use borrow.Author.Tests.{ne_eqb}
 use lib.ListN.{drop}
-use Rattle.text.specs.Text.{Put}
-use Rattle.text.proofs.Laws.{put_same}
+use Rattle.text.specs.declared.Output.{Output}
+use Rattle.text.specs.Output.{Adds}
+use Rattle.text.proofs.Adds.{adds_same}
 use Rattle.records.specs.Records.{length_bytes, mark_of, Record}
 use Rattle.segments.specs.Segment.{segment_kind}
 use Rattle.desk.specs.Desks.{segment_after}
@@ -23,27 +24,27 @@ use Rattle.explaining.specs.Explained.{explain_form, under_segment, under_call, 
 pub form_log : (mark : ℕ) → (mark ≡ mark_of "CH" → ⊥) → log_form mark ≡ explain_form mark
 form_log mark other = simp (ne_eqb _ _ other)
 
-module _ (s : State) (mark : ℕ) (content : List ℕ) (t : State) (out left : List ℕ) (to end : ℕ) where
+module _ (s : State) (mark : ℕ) (content : List ℕ) (t : State) (o p : Output) where
   abbrev r : Record
   r = record { mark = mark; content = content }
 
-  pub says_chunk : mark ≡ mark_of "CH" → t ≡ s → Put (chunk_lines (drop length_bytes content)) out to left end → RecordSays s mark content t out to left end
-  says_chunk m is p = rw m (is, p)
+  pub says_chunk : mark ≡ mark_of "CH" → t ≡ s → Adds (chunk_lines (drop length_bytes content)) o p → RecordSays s mark content t o p
+  says_chunk m is put = rw m (is, put)
 
   -- what nothing is explained under
-  says_bare : is_chunk r ≡ false → under_call s (call_of s r) ≡ None → CallSays s mark content t out to left end → RecordSays s mark content t out to left end
+  says_bare : is_chunk r ≡ false → under_call s (call_of s r) ≡ None → CallSays s mark content t o p → RecordSays s mark content t o p
   unfolding explained_line
-  says_bare other none says = rw (other, none) (says.0, put_same out to (sym (append-nil (log_program.text s r))) says.1)
+  says_bare other none says = rw (other, none) (says.0, adds_same (sym (append-nil (log_program.text s r))) says.1)
 
-  pub says_frame : mark ≡ mark_of "FR" → CallSays s mark content t out to left end → RecordSays s mark content t out to left end
+  pub says_frame : mark ≡ mark_of "FR" → CallSays s mark content t o p → RecordSays s mark content t o p
   says_frame m = says_bare (rw m refl) (rw m refl)
 
-  pub says_gathering : mark ≡ mark_of "GA" → CallSays s mark content t out to left end → RecordSays s mark content t out to left end
+  pub says_gathering : mark ≡ mark_of "GA" → CallSays s mark content t o p → RecordSays s mark content t o p
   says_gathering m = says_bare (rw m refl) (rw m refl)
 
-  pub says_segment : (mark ≡ mark_of "CH" → ⊥) → (mark ≡ mark_of "FR" → ⊥) → (mark ≡ mark_of "GA" → ⊥) → let a = answer_to s content in (t.desk ≡ a.desk) × (t.first ≡ a.first) × (t.second ≡ a.second) → Put (answer_lines a.answer (shown_in (segment_kind content) t) ++ explained_line (under_segment s content)) out to left end → RecordSays s mark content t out to left end
-  says_segment c f g e p =
+  pub says_segment : (mark ≡ mark_of "CH" → ⊥) → (mark ≡ mark_of "FR" → ⊥) → (mark ≡ mark_of "GA" → ⊥) → let a = answer_to s content in (t.desk ≡ a.desk) × (t.first ≡ a.first) × (t.second ≡ a.second) → Adds (answer_lines a.answer (shown_in (segment_kind content) t) ++ explained_line (under_segment s content)) o p → RecordSays s mark content t o p
+  says_segment c f g e put =
       let called : call_of s r ≡ wholly s content = simp (ne_eqb _ _ f, ne_eqb _ _ g) in
       let leaves : t ≡ left_by segment_after s (wholly s content) = (λ i. state (e.0 i) (e.1 i) (e.2 i)) ∙ sym (left_whole s content) in
       rw (ne_eqb _ _ c, called)
-      (leaves, put_same out to (λ i. answer_lines (sym (lent_whole s content) i).answer (shown_in (segment_kind content) (leaves i)) ++ explained_line (under_segment s content)) p)
+      (leaves, adds_same (λ i. answer_lines (sym (lent_whole s content) i).answer (shown_in (segment_kind content) (leaves i)) ++ explained_line (under_segment s content)) put)

@@ -2,6 +2,8 @@
 use Rattle.std.specs.Prelude.{ℕ, ◌+◌, ◌≡◌, Bool, cond, List, [], ◌++◌, eqb, length, Result, Ok, Err, Option, None}
 use Rattle.std.specs.Option.{option_or}
 use Rattle.text.specs.Text.{Put}
+use Rattle.text.specs.declared.Output.{Output}
+use Rattle.text.specs.Output.{Adds}
 use Rattle.records.specs.declared.Form.TheVariants.{Counted}
 use Rattle.records.specs.Records.{mark_bytes, length_bytes, mark_of, Forms, Record, body_in, last_line}
 use Rattle.records.specs.Transcripts.{Program}
@@ -73,8 +75,8 @@ explain_program =
       last = λ s e. last_line e;
     }
 
--- what a record leaves, with its lines put to the place `to` of an output
-abbrev pub RecordSays : State → ℕ → List ℕ → State → List ℕ → ℕ → List ℕ → ℕ → Type 0
-RecordSays s mark content t out to left end =
+-- what a record leaves, with its lines put to the output o, which they leave as p
+abbrev pub RecordSays : State → ℕ → List ℕ → State → Output → Output → Type 0
+RecordSays s mark content t o p =
     let r : Record = record { mark = mark; content = content } in
-    (t ≡ left_of s r) × Put (lines_of s r) out to left end
+    (t ≡ left_of s r) × Adds (lines_of s r) o p

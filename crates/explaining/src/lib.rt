@@ -2,7 +2,7 @@
 #![tactic(auto)]
 
 ghost use Rattle.std.specs.Prelude.{◌≡◌, false, refl, [], ◌++◌, ◌+◌, ◌≤◌, ◌<◌, length, drop};
-ghost use Rattle.text.specs.Text.{Put as Text·Put};
+ghost use Rattle.text.specs.Output.{HasRoom, Adds};
 ghost use Rattle.records.specs.Records.{length_bytes, mark_of, form_bytes, entry_in};
 ghost use Rattle.programs.specs.Programs.{alone};
 ghost use Rattle.segments.specs.Segment.{segment_kind, most_segments};
@@ -25,6 +25,7 @@ use records::{Entry, Form, LENGTH_BYTES};
 use replay::{FRAME_MARK, GATHERING_MARK, Replay};
 use segments::PAYLOAD_BYTES;
 use slots::Answer;
+use text::Output;
 
 // The mark of a chunk, and the number that its two bytes say.
 // Stays: (d) a constant's value cannot be a call, as of `from_be_bytes`.
@@ -115,31 +116,31 @@ fn explain_answer(
 
 impl Explain {
     // A segment: the desk driven, the lines of its answer, and the line that explains a refusal.
-    fn segment(&mut self, seg: &[u8], out: &mut [u8], to: usize) -> usize
+    fn segment(&mut self, seg: &[u8], out: &mut Output<'_>)
         requires ready { Ready (seen self.old.replay) }
-        requires longest_text_in_bounds { to + longest_text ≤ length out.old }
+        requires longest_text_in_bounds { HasRoom longest_text out.old }
         ensures left { (self.new.replay.desk ≡ (segment_after self.old.replay.desk seg.now self.old.replay.first self.old.replay.second).desk) × (self.new.replay.first ≡ (segment_after self.old.replay.desk seg.now self.old.replay.first self.old.replay.second).first) × (self.new.replay.second ≡ (segment_after self.old.replay.desk seg.now self.old.replay.first self.old.replay.second).second) }
-        ensures put { Text·Put (answer_lines (segment_after self.old.replay.desk seg.now self.old.replay.first self.old.replay.second).answer (shown (segment_kind seg.now) self.new.replay.desk self.new.replay.first self.new.replay.second) ++ explained_line (under_segment (seen self.old.replay) seg.now)) out.old to out.new result }
+        ensures put { Adds (answer_lines (segment_after self.old.replay.desk seg.now self.old.replay.first self.old.replay.second).answer (shown (segment_kind seg.now) self.new.replay.desk self.new.replay.first self.new.replay.second) ++ explained_line (under_segment (seen self.old.replay) seg.now)) out.old out.new }
     {
         let kind = kind_in(seg);
         let before = explain_before(kind, &self.replay.desk, seg);
-        let a = self.replay.segment(seg, out, to);
-        let explained = explain_answer(a.answer, before, kind, &self.replay.desk);
-        explain_lines::put_explained(explained, out, a.to)
+        let answer = self.replay.segment(seg, out);
+        let explained = explain_answer(answer, before, kind, &self.replay.desk);
+        explain_lines::put_explained(explained, out);
     }
 
     // The call that a record with this mark makes, and its lines. A chunk stands behind its length, and changes nothing on the desk.
-    fn call(&mut self, mark: u16, content: &[u8], out: &mut [u8], to: usize) -> usize
+    fn call(&mut self, mark: u16, content: &[u8], out: &mut Output<'_>)
         requires ready { Ready (seen self.old.replay) }
-        requires longest_text_in_bounds { to + longest_text ≤ length out.old }
+        requires longest_text_in_bounds { HasRoom longest_text out.old }
         requires length_bytes_in_bounds { mark ≡ mark_of "CH" → length_bytes ≤ length content.now }
-        ensures { RecordSays (seen self.old.replay) mark content.now (seen self.new.replay) out.old to out.new result }
+        ensures { RecordSays (seen self.old.replay) mark content.now (seen self.new.replay) out.old out.new }
     {
         match mark {
-            CHUNK_MARK => explain_lines::put_chunk(&content[LENGTH_BYTES..], out, to),
-            FRAME_MARK => self.replay.call(mark, content, out, to),
-            GATHERING_MARK => self.replay.call(mark, content, out, to),
-            _ => self.segment(content, out, to),
+            CHUNK_MARK => explain_lines::put_chunk(&content[LENGTH_BYTES..], out),
+            FRAME_MARK => self.replay.call(mark, content, out),
+            GATHERING_MARK => self.replay.call(mark, content, out),
+            _ => self.segment(content, out),
         }
     }
 }
@@ -174,7 +175,9 @@ impl Program for Explain {
         _report: &mut [u8],
         told: usize,
     ) -> Put {
-        let wrote = self.call(mark, content, out, to);
+        let mut output = Output { bytes: out, at: to };
+        self.call(mark, content, &mut output);
+        let wrote = output.at;
         Put { wrote, told }
     }
 

@@ -1,13 +1,15 @@
-// The names of the standard's fields, put at a place of an output. Internal: `explain_lines` calls `put_name`.
+// The names of the standard's fields, put to an output. Internal: `explain_lines` calls `put_name`.
 #![tactic(auto)]
 
-ghost use Rattle.std.specs.Prelude.{◌≡◌, ◌+◌, ◌≤◌, length, map};
+ghost use Rattle.std.specs.Prelude.{◌≡◌, length, map};
 ghost use Rattle.octets.specs.Tables.{name_for};
-ghost use Rattle.text.specs.Text.{text, Put};
+ghost use Rattle.text.specs.Text.{text};
+ghost use Rattle.text.specs.Output.{HasRoom, Adds};
 ghost use Rattle.fields.specs.Fields.{rows_of};
 ghost use Rattle.field_names.specs.Names.{name_of};
 
 use fields::Table;
+use text::Output;
 
 const CHUNK_NAMES: [&[u8]; 10] = [
     b"FIC_chunk_major_protocol_version",
@@ -66,13 +68,12 @@ fn names(table: Table) -> &'static [&'static [u8]]
     }
 }
 
-// Puts the name of a row of a table, none where it has no such row; the place after it.
-pub fn put_name(table: Table, row: u8, out: &mut [u8], to: usize) -> usize
-    requires { to + length (name_of table row) ≤ length out.old }
-    ensures { Put (name_of table row) out.old to out.new result }
+// Puts the name of a row of a table, none where it has no such row.
+pub fn put_name(table: Table, row: u8, out: &mut Output<'_>)
+    requires { HasRoom (length (name_of table row)) out.old }
+    ensures { Adds (name_of table row) out.old out.new }
 {
-    match names(table).get(row as usize) {
-        Some(name) => text::put_text(name, out, to),
-        None => to,
+    if let Some(name) = names(table).get(row as usize) {
+        out.put(name);
     }
 }

@@ -5,7 +5,10 @@ ghost use Rattle.std.specs.Prelude.{◌≡◌, true, ◌+◌, ◌*◌, ◌≤◌
 ghost use Rattle.std.specs.List.{list_all};
 ghost use Rattle.std.proofs.lemmas.List.Edits.{sets};
 ghost use Rattle.text.specs.Text.{Put};
+ghost use Rattle.text.specs.Output.{HasRoom, Adds};
 ghost use Rattle.hex_text.specs.Hex.{hex, digit_of, hex_fits, hex_said};
+
+use text::Output;
 
 // ---- written
 
@@ -23,6 +26,14 @@ pub fn put_hex(bytes: &[u8], out: &mut [u8], to: usize) -> usize
         out[at + 1] = DIGITS[(byte % 16) as usize];
     }
     to + 2 * bytes.len()
+}
+
+// Puts bytes in hex to an output.
+pub fn put_hex_to(bytes: &[u8], out: &mut Output<'_>)
+    requires { HasRoom (2 * length bytes.now) out.old }
+    ensures { Adds (hex bytes.now) out.old out.new }
+{
+    out.at = put_hex(bytes, out.bytes, out.at);
 }
 
 // ---- read

@@ -9,8 +9,9 @@ use borrow.Author.Tests.{ne_eqb}
 use lib.ListN.{length, take, drop, length-drop}
 use lib.Seq.{length-take-le, drop-drop}
 use Rattle.std.proofs.Common.{Ok}
-use Rattle.text.specs.Text.{Put}
-use Rattle.text.proofs.Laws.{put_same}
+use Rattle.text.specs.declared.Output.{Output}
+use Rattle.text.specs.Output.{Adds}
+use Rattle.text.proofs.Adds.{adds_same}
 use Rattle.records.specs.declared.Form.{Form}
 use Rattle.records.specs.declared.Form.TheVariants.{Foreign}
 use Rattle.records.specs.declared.Entry.{Entry}
@@ -95,30 +96,30 @@ module _ (d : Desk) (xs first second : List ℕ) (r : After) (is : r ≡ segment
 
 -- ---- a record by its mark: what its call leaves, and its lines
 
-module _ (s : State) (mark : ℕ) (content : List ℕ) (out left : List ℕ) (to end : ℕ) where
+module _ (s : State) (mark : ℕ) (content : List ℕ) (o p : Output) where
   abbrev r : Record
   r = record { mark = mark; content = content }
 
-  by_call : (c : Call) → call_of s r ≡ c → (t : State) → t ≡ left_by segment_after s c → Put (lines_of (told_by segment_after s c)) out to left end → CallSays s mark content t out to left end
-  by_call c is t e p =
-      subst (λ (d : Call). (t ≡ left_by segment_after s d) × Put (lines_of (told_by segment_after s d)) out to left end) (sym is) (e, p)
+  by_call : (c : Call) → call_of s r ≡ c → (t : State) → t ≡ left_by segment_after s c → Adds (lines_of (told_by segment_after s c)) o p → CallSays s mark content t o p
+  by_call c is t e put =
+      subst (λ (d : Call). (t ≡ left_by segment_after s d) × Adds (lines_of (told_by segment_after s d)) o p) (sym is) (e, put)
 
   called : {k : ℕ} → mark ≡ k → call_of s r ≡ call_of s (record { mark = k; content = content })
   called m = ap (λ (k : ℕ). call_of s (record { mark = k; content = content })) m
 
-  pub call-frame : mark ≡ mark_of "FR" → (d : Desk) → d ≡ new_frame s.desk → Put (frame_lines (shown This d s.first s.second)) out to left end → CallSays s mark content (state d s.first s.second) out to left end
-  call-frame m d e p =
+  pub call-frame : mark ≡ mark_of "FR" → (d : Desk) → d ≡ new_frame s.desk → Adds (frame_lines (shown This d s.first s.second)) o p → CallSays s mark content (state d s.first s.second) o p
+  call-frame m d e put =
       by_call frame (called m) (state d s.first s.second) (ap (λ (x : Desk). state x s.first s.second) e)
-      (put_same out to (ap (λ (x : Desk). frame_lines (shown This x s.first s.second)) e) p)
+      (adds_same (ap (λ (x : Desk). frame_lines (shown This x s.first s.second)) e) put)
 
-  pub call-gathering : mark ≡ mark_of "GA" → (d : Desk) → d ≡ new_gathering s.desk → Put gathering_line out to left end → CallSays s mark content (state d s.first s.second) out to left end
-  call-gathering m d e p = by_call gathering (called m) (state d s.first s.second) (ap (λ (x : Desk). state x s.first s.second) e) p
+  pub call-gathering : mark ≡ mark_of "GA" → (d : Desk) → d ≡ new_gathering s.desk → Adds gathering_line o p → CallSays s mark content (state d s.first s.second) o p
+  call-gathering m d e put = by_call gathering (called m) (state d s.first s.second) (ap (λ (x : Desk). state x s.first s.second) e) put
 
-  pub call-segment : (mark ≡ mark_of "FR" → ⊥) → (mark ≡ mark_of "GA" → ⊥) → (d : Desk) (first second : List ℕ) → let a = segment_after s.desk content s.first s.second in (d ≡ a.desk) × (first ≡ a.first) × (second ≡ a.second) → Put (answer_lines a.answer (shown (segment_kind content) d first second)) out to left end → CallSays s mark content (state d first second) out to left end
-  call-segment f g d first second e p =
+  pub call-segment : (mark ≡ mark_of "FR" → ⊥) → (mark ≡ mark_of "GA" → ⊥) → (d : Desk) (first second : List ℕ) → let a = segment_after s.desk content s.first s.second in (d ≡ a.desk) × (first ≡ a.first) × (second ≡ a.second) → Adds (answer_lines a.answer (shown (segment_kind content) d first second)) o p → CallSays s mark content (state d first second) o p
+  call-segment f g d first second e put =
       let leaves : state d first second ≡ left_by segment_after s (wholly s content) = (λ i. state (e.0 i) (e.1 i) (e.2 i)) ∙ sym (left_whole s content) in
       by_call (wholly s content) (simp (ne_eqb _ _ f, ne_eqb _ _ g)) (state d first second) leaves
-      (put_same out to (λ i. answer_lines (sym (lent_whole s content) i).answer (shown_in (segment_kind content) (leaves i))) p)
+      (adds_same (λ i. answer_lines (sym (lent_whole s content) i).answer (shown_in (segment_kind content) (leaves i))) put)
 
 -- ---- a mark
 

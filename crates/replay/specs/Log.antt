@@ -1,7 +1,8 @@
 -- Document 01, "The log program": the records of a log, the calls that they make, and the transcript that is printed.
 use Rattle.std.specs.Prelude.{ℕ, ◌+◌, ◌≡◌, cond, eqb, length}
 use mathlib.Core.List.{List, ◌++◌, map, flat_map}
-use Rattle.text.specs.Text.{Put}
+use Rattle.text.specs.declared.Output.{Output}
+use Rattle.text.specs.Output.{Adds}
 use Rattle.records.specs.declared.Entry.{Entry}
 use Rattle.records.specs.declared.Form.TheVariants.{Foreign, Fixed}
 use Rattle.records.specs.Records.{mark_bytes, mark_of, Forms, Record, file_in, last_line}
@@ -57,8 +58,8 @@ log_program =
       last = λ s e. last_line e;
     }
 
--- what the call of a record leaves, with its lines put to the place `to` of an output
-abbrev pub CallSays : State → ℕ → List ℕ → State → List ℕ → ℕ → List ℕ → ℕ → Type 0
-CallSays s mark content t out to left end =
+-- what the call of a record leaves, with its lines put to the output o, which they leave as p
+abbrev pub CallSays : State → ℕ → List ℕ → State → Output → Output → Type 0
+CallSays s mark content t o p =
     let r : Record = record { mark = mark; content = content } in
-    (t ≡ log_program.next s r) × Put (log_program.text s r) out to left end
+    (t ≡ log_program.next s r) × Adds (log_program.text s r) o p

@@ -2,7 +2,7 @@
 #![tactic(auto)]
 
 ghost use Rattle.std.specs.Prelude.{◌≡◌, false, refl, ◌+◌, ◌≤◌, length, drop};
-ghost use Rattle.text.specs.Text.{Put as Text·Put};
+ghost use Rattle.text.specs.Output.{HasRoom, Adds};
 ghost use Rattle.records.specs.Records.{form_bytes, entry_in};
 ghost use Rattle.programs.specs.Programs.{alone};
 ghost use Rattle.segments.specs.Segment.{segment_kind};
@@ -19,6 +19,7 @@ use programs::{Program, Put};
 use records::{Entry, Form};
 use segments::SEGMENT_BYTES;
 use slots::Answer;
+use text::Output;
 
 // The marks of a log's records, and the numbers that their two bytes say.
 // Stays: (d) a constant's value cannot be a call, as of `from_be_bytes`.
@@ -40,13 +41,6 @@ pub struct Replay {
     pub desk: Desk,
     pub first: [u8; LONGEST_LISTING],
     pub second: [u8; LONGEST_LISTING],
-}
-
-// After a segment: the answer to it, and the next place of the output.
-#[derive(Clone, Copy)]
-pub struct Answered {
-    pub answer: Result<Answer, Refusal>,
-    pub to: usize,
 }
 
 // What a mark of a log tells.
@@ -75,11 +69,11 @@ impl Replay {
     }
 
     // A new frame: the desk's bytes cleared, and the lines of what it shows.
-    fn frame(&mut self, out: &mut [u8], to: usize) -> usize
+    fn frame(&mut self, out: &mut Output<'_>)
         requires ready { Ready (seen self.old) }
-        requires longest_lines_in_bounds { to + longest_lines ≤ length out.old }
+        requires longest_lines_in_bounds { HasRoom longest_lines out.old }
         ensures left { seen self.new ≡ state (new_frame self.old.desk) self.old.first self.old.second }
-        ensures put { Text·Put (frame_lines (shown Kind.This self.new.desk self.new.first self.new.second)) out.old to out.new result }
+        ensures put { Adds (frame_lines (shown Kind.This self.new.desk self.new.first self.new.second)) out.old out.new }
     {
         let notes = self.desk.notes;
         desk::clear(notes, &mut self.desk.bytes);
@@ -92,29 +86,29 @@ impl Replay {
             &self.first,
             &self.second,
         );
-        lines::put_frame(listing, out, to)
+        lines::put_frame(listing, out);
     }
 
     // A new gathering: the desk's bytes cleared, and its line.
-    fn gathering(&mut self, out: &mut [u8], to: usize) -> usize
+    fn gathering(&mut self, out: &mut Output<'_>)
         requires ready { Ready (seen self.old) }
-        requires longest_lines_in_bounds { to + longest_lines ≤ length out.old }
+        requires longest_lines_in_bounds { HasRoom longest_lines out.old }
         ensures left { seen self.new ≡ state (new_gathering self.old.desk) self.old.first self.old.second }
-        ensures put { Text·Put gathering_line out.old to out.new result }
+        ensures put { Adds gathering_line out.old out.new }
     {
         let notes = self.desk.notes;
         desk::clear(notes, &mut self.desk.bytes);
         self.desk.notes = notes.gathering();
-        lines::put_gathering(out, to)
+        lines::put_gathering(out);
     }
 
     // A segment: the desk driven, and the lines of its answer. Internal, as `call`: `explaining` calls them.
-    pub fn segment(&mut self, seg: &[u8], out: &mut [u8], to: usize) -> Answered
+    pub fn segment(&mut self, seg: &[u8], out: &mut Output<'_>) -> Result<Answer, Refusal>
         requires ready { Ready (seen self.old) }
-        requires longest_lines_in_bounds { to + longest_lines ≤ length out.old }
+        requires longest_lines_in_bounds { HasRoom longest_lines out.old }
         ensures left { (self.new.desk ≡ (segment_after self.old.desk seg.now self.old.first self.old.second).desk) × (self.new.first ≡ (segment_after self.old.desk seg.now self.old.first self.old.second).first) × (self.new.second ≡ (segment_after self.old.desk seg.now self.old.first self.old.second).second) }
-        ensures answer_value { result.answer ≡ (segment_after self.old.desk seg.now self.old.first self.old.second).answer }
-        ensures put { Text·Put (answer_lines (segment_after self.old.desk seg.now self.old.first self.old.second).answer (shown (segment_kind seg.now) self.new.desk self.new.first self.new.second)) out.old to out.new result.to }
+        ensures answer_value { result ≡ (segment_after self.old.desk seg.now self.old.first self.old.second).answer }
+        ensures put { Adds (answer_lines (segment_after self.old.desk seg.now self.old.first self.old.second).answer (shown (segment_kind seg.now) self.new.desk self.new.first self.new.second)) out.old out.new }
     {
         let notes = self.desk.notes;
         let driven = desk::drive(
@@ -130,30 +124,26 @@ impl Replay {
         match answer {
             Ok(Answer::NewList { kind, length }) => {
                 let listing = notes::part(kind, after.swapped, length, &self.first, &self.second);
-                let to = lines::put_list(kind, listing, out, to);
-                Answered { answer, to }
+                lines::put_list(kind, listing, out);
             }
-            Ok(Answer::Missing(n)) => {
-                let to = lines::put_missing(n, out, to);
-                Answered { answer, to }
-            }
-            Err(refusal) => {
-                let to = lines::put_refused(refusal, out, to);
-                Answered { answer, to }
-            }
+            Ok(Answer::Missing(n)) => lines::put_missing(n, out),
+            Err(refusal) => lines::put_refused(refusal, out),
         }
+        answer
     }
 
     // The call that a record with this mark makes, and its lines.
-    pub fn call(&mut self, mark: u16, content: &[u8], out: &mut [u8], to: usize) -> usize
+    pub fn call(&mut self, mark: u16, content: &[u8], out: &mut Output<'_>)
         requires ready { Ready (seen self.old) }
-        requires longest_lines_in_bounds { to + longest_lines ≤ length out.old }
-        ensures { CallSays (seen self.old) mark content.now (seen self.new) out.old to out.new result }
+        requires longest_lines_in_bounds { HasRoom longest_lines out.old }
+        ensures { CallSays (seen self.old) mark content.now (seen self.new) out.old out.new }
     {
         match mark {
-            FRAME_MARK => self.frame(out, to),
-            GATHERING_MARK => self.gathering(out, to),
-            _ => self.segment(content, out, to).to,
+            FRAME_MARK => self.frame(out),
+            GATHERING_MARK => self.gathering(out),
+            _ => {
+                let _ = self.segment(content, out);
+            }
         }
     }
 }
@@ -188,7 +178,9 @@ impl Program for Replay {
         _report: &mut [u8],
         told: usize,
     ) -> Put {
-        let wrote = self.call(mark, content, out, to);
+        let mut output = Output { bytes: out, at: to };
+        self.call(mark, content, &mut output);
+        let wrote = output.at;
         Put { wrote, told }
     }
 

@@ -1,2 +1,3 @@
 pub mod Laws
 pub mod Samples
+pub mod Adds

@@ -4,6 +4,7 @@
 ghost use Rattle.std.specs.Prelude.{◌≡◌, ◌+◌, ◌≤◌, length};
 ghost use Rattle.std.proofs.lemmas.List.Edits.{sets};
 ghost use Rattle.text.specs.Text.{decimal, numbered, offset_text, refused_with, Put};
+ghost use Rattle.text.specs.Output.{HasRoom, Adds};
 
 // Puts a word at a place of the output; the place after it.
 pub fn put_text(word: &[u8], out: &mut [u8], to: usize) -> usize
@@ -72,4 +73,47 @@ pub fn put_refused(telling: u8, number: u8, offset: u16, out: &mut [u8], to: usi
     let at = put_number(number as u64, out, to);
     let end = put_offset(telling, number, offset, out, at);
     put_text(b"\n", out, end)
+}
+
+// ---- an output, and the place that it has come to
+
+// An output's bytes, and the place in them where what is put next begins.
+#[derive(Drop)]
+pub struct Output<'a> {
+    pub bytes: &'a mut [u8],
+    pub at: usize,
+}
+
+impl Output<'_> {
+    // Puts bytes.
+    pub fn put(&mut self, bytes: &[u8])
+        requires { HasRoom (length bytes.now) self.old }
+        ensures { Adds bytes.now self.old self.new }
+    {
+        self.at = put_text(bytes, self.bytes, self.at);
+    }
+
+    // Puts a number in decimal.
+    pub fn number(&mut self, n: u64)
+        requires { HasRoom (length (decimal n)) self.old }
+        ensures { Adds (decimal n) self.old self.new }
+    {
+        self.at = put_number(n, self.bytes, self.at);
+    }
+
+    // Puts a number in decimal and ends the line.
+    pub fn numbered(&mut self, n: u64)
+        requires { HasRoom (length (numbered n)) self.old }
+        ensures { Adds (numbered n) self.old self.new }
+    {
+        self.at = put_numbered(n, self.bytes, self.at);
+    }
+
+    // Puts a refusal's number, the offset behind it if it is the number that tells one, and ends the line.
+    pub fn refused(&mut self, telling: u8, number: u8, offset: u16)
+        requires { HasRoom 32 self.old }
+        ensures { Adds (refused_with telling number offset) self.old self.new }
+    {
+        self.at = put_refused(telling, number, offset, self.bytes, self.at);
+    }
 }

@@ -2,15 +2,14 @@
 use native.Mathlib.Omega.{arith}
 use mathlib.Core.Path.{ap, ap₂}
 use mathlib.Core.List.{◌++◌}
-use Rattle.text.proofs.Laws.{put_both, put_same}
+use Rattle.text.proofs.Adds.{adds_both, adds_same, room_left}
 use Rattle.explain_lines.specs.Lines.{explained_line, checked_line}
 use Rattle.explain_lines.proofs.Laws.{checked_short}
 use Rattle.explain_lines.proofs.put_chunk.Goals as goal
 
 pub put_explained-requires : goal.put_explained-requires
-put_explained-requires c = omega (arith, checked_short c.args.chunk.now c.check_chunk-checked.result c.check_chunk-checked.ensures, c.put_checked-at.ensures.0)
+put_explained-requires c = room_left c.put_checked.ensures _ _ (omega (arith, checked_short c.args.chunk.now c.check_chunk.result c.check_chunk.ensures)) c.requires
 
 pub returns : goal.returns
-returns c = let a = c.args in
-    put_same a.out.now a.to (ap₂ ◌++◌ (ap checked_line c.check_chunk-checked.ensures) (ap explained_line c.explain_chunk-explained.ensures))
-    (put_both (checked_line c.check_chunk-checked.result) (explained_line c.explain_chunk-explained.result) a.out.now a.to c.put_checked-at.ensures c.put_explained.ensures)
+returns c =
+    adds_same (ap₂ ◌++◌ (ap checked_line c.check_chunk.ensures) (ap explained_line c.explain_chunk.ensures)) (adds_both c.put_checked.ensures c.put_explained.ensures)

@@ -1,23 +1,21 @@
 -- `explain_lines::put_found` meets its contract: the words and the two numbers come one after the other. Assumes nothing.
 use native.Mathlib.Omega.{arith}
-use Rattle.text.specs.Text.{text, decimal, numbered}
+use lib.ListN.{length-append}
+use Rattle.text.specs.Text.{text, decimal}
 use Rattle.text.proofs.Laws.{length-decimal, length-numbered}
-use Rattle.explain_lines.proofs.Laws.{put_four}
+use Rattle.text.proofs.Adds.{adds_both, room_left}
 use Rattle.explain_lines.proofs.put_found.Goals as goal
 
-pub put_number-end-requires : goal.put_number-end-requires
-put_number-end-requires c = omega (arith, length-decimal 4 c.args.at (omega arith), c.put_text-from.ensures.0)
+pub number-requires : goal.number-requires
+number-requires c = room_left c.put.ensures _ _ (omega (arith, length-decimal 4 c.args.at (omega arith))) c.requires
 
-pub put_text-next-requires : goal.put_text-next-requires
-put_text-next-requires c = omega (arith, length-decimal 4 c.args.at (omega arith), c.put_text-from.ensures.0, c.put_number-end.ensures.0)
+pub put-requires-2 : goal.put-requires-2
+put-requires-2 c = room_left (adds_both c.put.ensures c.number.ensures) _ _ (omega (arith, length-decimal 4 c.args.at (omega arith))) c.requires
 
-pub put_numbered-requires : goal.put_numbered-requires
-put_numbered-requires c = let a = c.args in omega (arith, length-decimal 4 a.at (omega arith), length-numbered 19 a.value (omega arith), c.put_text-from.ensures.0, c.put_number-end.ensures.0, c.put_text-next.ensures.0)
+pub numbered-requires : goal.numbered-requires
+numbered-requires c = let a = c.args in
+    room_left (adds_both c.put.ensures (adds_both c.number.ensures c.put-2.ensures)) _ _
+    (omega (arith, length-append (decimal a.at) (text " is "), length-decimal 4 a.at (omega arith), length-numbered 19 a.value (omega arith))) c.requires
 
 pub returns : goal.returns
-returns c = let a = c.args in
-    put_four (text " at bit ") (decimal a.at) (text " is ") (numbered a.value) a.out.now a.to
-    c.put_text-from.ensures
-    c.put_number-end.ensures
-    c.put_text-next.ensures
-    c.put_numbered.ensures
+returns c = adds_both c.put.ensures (adds_both c.number.ensures (adds_both c.put-2.ensures c.numbered.ensures))

@@ -20,8 +20,8 @@ looked_up rows names i name same inside is =
     ∙ ap (λ (ns : List (List ℕ)). get_or ns i []) same
     ∙ name-among rows i
 
-pub put_text-requires : goal.put_text-requires
-put_text-requires c = let a = c.args in
+pub put-requires : goal.put-requires
+put-requires c = let a = c.args in
     let found = c.in-Some.ensures.lookup in
     let name = looked_up (rows_of a.table) _ a.row c.in-Some.name.now c.names.ensures found.3.0 found.1 in
     rw name c.requires
@@ -30,4 +30,4 @@ pub returns-in-Some : goal.returns-in-Some
 returns-in-Some c = let a = c.args in
     let found = c.in-Some.ensures.lookup in
     let name = looked_up (rows_of a.table) _ a.row c.in-Some.name.now c.names.ensures found.3.0 found.1 in
-    rw (← name) c.put_text.ensures
+    rw (← name) c.put.ensures

@@ -1,12 +1,8 @@
--- `lines::put_missing` meets its contract: the words, and the number behind them. Assumes nothing.
+-- `lines::put_missing` meets its contract: behind the words there is room for the number. Assumes nothing.
 use native.Mathlib.Omega.{arith}
-use Rattle.text.specs.Text.{text, numbered}
-use Rattle.text.proofs.Laws.{put_both, length-numbered}
+use Rattle.text.proofs.Laws.{length-numbered}
+use Rattle.text.proofs.Adds.{room_left}
 use Rattle.lines.proofs.put_missing.Goals as goal
 
-pub put_numbered-requires : goal.put_numbered-requires
-put_numbered-requires c = omega (arith, length-numbered 2 c.args.n (omega arith), c.put_text-at.ensures.0)
-
-pub returns : goal.returns
-returns c = let a = c.args in
-    put_both (text "SG 0 missing ") (numbered a.n) a.out.now a.to c.put_text-at.ensures c.put_numbered.ensures
+pub numbered-requires : goal.numbered-requires
+numbered-requires c = room_left c.put.ensures _ _ (omega (arith, length-numbered 2 c.args.n (omega arith))) c.requires

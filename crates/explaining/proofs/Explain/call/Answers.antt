@@ -1,6 +1,6 @@
 -- `explaining::Explain::call` meets its contract: under the line of a new frame or a new gathering nothing is explained. Assumes nothing.
 use Rattle.std.proofs.Common.{refl, ap}
-use Rattle.text.proofs.Laws.{put_same}
+use Rattle.text.proofs.Adds.{adds_same}
 use Rattle.explain_lines.specs.Lines.{chunk_lines}
 use Rattle.programs.proofs.Alone.{all_behind}
 use Rattle.replay.specs.Seen.{seen}
@@ -10,14 +10,14 @@ use Rattle.explaining.proofs.Explain.call.Goals as goal
 pub returns-in-17224 : goal.returns-in-17224
 returns-in-17224 c =
     let a = c.args in
-    says_chunk (seen a.self.now.replay) a.mark a.content.now _ a.out.now _ a.to _ c.in-17224.is refl (put_same a.out.now a.to (ap chunk_lines (all_behind 2 a.content.now)) c.put_chunk.ensures)
+    says_chunk (seen a.self.now.replay) a.mark a.content.now _ a.out.now _ c.in-17224.is refl (adds_same (ap chunk_lines (all_behind 2 a.content.now)) c.put_chunk.ensures)
 
 pub returns-in-18002 : goal.returns-in-18002
 returns-in-18002 c =
     let a = c.args in
-    says_frame (seen a.self.now.replay) a.mark a.content.now _ a.out.now _ a.to _ c.in-18002.is c.call.ensures
+    says_frame (seen a.self.now.replay) a.mark a.content.now _ a.out.now _ c.in-18002.is c.call.ensures
 
 pub returns-in-18241 : goal.returns-in-18241
 returns-in-18241 c =
     let a = c.args in
-    says_gathering (seen a.self.now.replay) a.mark a.content.now _ a.out.now _ a.to _ c.in-18241.is c.call-in-18241.ensures
+    says_gathering (seen a.self.now.replay) a.mark a.content.now _ a.out.now _ c.in-18241.is c.call-in-18241.ensures

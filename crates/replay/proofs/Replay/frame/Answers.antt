@@ -1,6 +1,6 @@
 -- `replay::Replay::frame` meets its contract: a new frame, and the lines of what it shows. Assumes nothing.
 use Rattle.std.proofs.Common.{ap}
-use Rattle.text.proofs.Laws.{put_same}
+use Rattle.text.proofs.Adds.{adds_same}
 use Rattle.desk.specs.declared.Desk.{Desk}
 use Rattle.desk.specs.Calls.{state}
 use Rattle.replay.proofs.Laws.{framed, framed_room, framed_small, framed-lines}
@@ -29,4 +29,4 @@ returns-clause-put c =
     let a = c.args.self.now in
     let p = c.requires.ready in
     rw c.clear.ensures
-    (put_same c.args.out.now c.args.to (framed-lines a.desk.notes _ a.desk.bytes a.first a.second p.0 p.1 p.2 c.frame-after.ensures _ c.part-listing.ensures.result_value) c.put_frame.ensures)
+    (adds_same (framed-lines a.desk.notes _ a.desk.bytes a.first a.second p.0 p.1 p.2 c.frame-after.ensures _ c.part-listing.ensures.result_value) c.put_frame.ensures)

@@ -1,5 +1,5 @@
 -- A record of a log: its call, and its lines, which have room. Assumes nothing.
-use Rattle.std.proofs.Common.{sym, subst}
+use Rattle.std.proofs.Common.{rules, sym, subst}
 use Rattle.desk.specs.Calls.{Ready}
 use Rattle.programs.proofs.Alone.{takes_alone}
 use Rattle.replay.specs.Log.{log_program}
@@ -9,7 +9,7 @@ use Rattle.replay.proofs.ReplayProgram.take.Goals as goal
 
 pub returns-clause-takes : goal.returns-clause-takes
 returns-clause-takes c =
-    takes_alone log_program c.call-wrote.ensures.0 c.call-wrote.ensures.1 (lines_fit.cost (seen c.args.self.now) (record { mark = c.args.mark; content = c.args.content.now })) c.requires.tellable.0
+    takes_alone log_program c.call.ensures.0 (c.call.ensures.1.at, search rules) (lines_fit.cost (seen c.args.self.now) (record { mark = c.args.mark; content = c.args.content.now })) c.requires.tellable.0
 
 pub returns-clause-ready : goal.returns-clause-ready
-returns-clause-ready c = subst Ready (sym c.call-wrote.ensures.0) (next_ready (seen c.args.self.now) (record { mark = c.args.mark; content = c.args.content.now }) c.requires.ready)
+returns-clause-ready c = subst Ready (sym c.call.ensures.0) (next_ready (seen c.args.self.now) (record { mark = c.args.mark; content = c.args.content.now }) c.requires.ready)
