@@ -1,7 +1,6 @@
 -- Document 02, 8/14, and the programs' page: a log with each refusal explained under its line, and chunks by themselves.
 use Rattle.std.specs.Prelude.{ℕ, ◌+◌, ◌≡◌, Bool, cond, List, [], ◌++◌, eqb, length, Result, Ok, Err, Option, None}
 use Rattle.std.specs.Option.{option_or}
-use Rattle.text.specs.Text.{Put}
 use Rattle.text.specs.declared.Output.{Output}
 use Rattle.text.specs.Output.{Adds}
 use Rattle.records.specs.declared.Form.TheVariants.{Counted}
