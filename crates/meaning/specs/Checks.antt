@@ -1,5 +1,6 @@
 use Rattle.std.specs.Prelude.{Result, Ok, Err}
 use Rattle.meaning.specs.declared.Refusal.{Refusal}
+
 -- Some checks, and then others.
 
 abbrev pub and_then : Result Unit Refusal → Result Unit Refusal → Result Unit Refusal

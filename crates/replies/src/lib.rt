@@ -50,9 +50,7 @@ fn answer<W: Write, V: Write>(text: &[u8], to: &mut W, reasons: &mut V) -> Endin
             b"write: not the word this or next, a space, and a listing in hex\n",
             MISUSED,
         ),
-        Err(Unanswered::TooLong) => {
-            say(reasons, b"write: more than 65,535 bytes\n", MISUSED)
-        }
+        Err(Unanswered::TooLong) => { say(reasons, b"write: more than 65,535 bytes\n", MISUSED) }
         Err(Unanswered::NoRoom) => say(reasons, b"write: no room for the log\n", FAILED),
     }
 }
