@@ -112,7 +112,8 @@ pub fn print_both<R, W, F, G>(
     blocks: u64,
     packets: F,
     report: G,
-) where
+)
+where
     R: Files + Eprint,
     W: Write,
     F: FnOnce(&mut Stored<R::File>, &mut W) -> Ending,
