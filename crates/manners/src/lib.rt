@@ -1,7 +1,7 @@
 // The manners of a program: what it does around its answers, where a read or a write fails, with words, and as it ends.
 #![tactic(auto)]
 
-ghost use Rattle.std.specs.Prelude.{◌≡◌, ◌<◌, ◌⊎◌, length, take, None, Some, IfSome, IfErr, OnOk};
+ghost use Rattle.std.specs.Prelude.{◌≡◌, ◌<◌, ◌⊎◌, length, take, None, Some, IfSome, IfOk, IfErr, OnOk};
 ghost use Rattle.std.specs.Io.{ReadsAtMost, WritesAtMost};
 ghost use Rattle.std.specs.Io.KnownBytes.{Keeps, Appends, ReadConsumes, WriteAppends};
 ghost use Rattle.manners.specs.Manners.{came_of, bytes_in, sent_of, ended_by, misused, status_of, Counts, Room, Worked};
@@ -44,13 +44,6 @@ pub enum Ending {
     NotWritten,
     // no turn was left
     Spent,
-}
-
-// A text that was read: how many bytes it has, and whether a read failed.
-#[derive(Clone, Copy)]
-pub struct Took {
-    pub have: usize,
-    pub failed: bool,
 }
 
 // The statuses that are no number of an answer: a read or a write failed; the program was not used as it has to be.
@@ -102,34 +95,22 @@ pub fn read_behind<R: Read>(from: &mut R, block: &mut [u8], have: usize) -> Came
     told(got)
 }
 
-// Reads until the buffer is full, the input ends or a read fails.
-pub fn read_full<R: Read>(from: &mut R, buf: &mut [u8]) -> Took
-    ensures { Counts result.have buf.new }
+// Reads until the buffer is full or the input ends; how many bytes came. Where a read failed, its error: then nothing more is said of the buffer
+// than that it is as long as it was.
+pub fn read_full<R: Read>(from: &mut R, buf: &mut [u8]) -> io::Result<usize>
+    ensures counts { IfOk result (λ have. Counts have buf.new) }
+    ensures length { length buf.new ≡ length buf.old }
 {
     let mut have = 0;
+    // Stays: (d) what is counted is the bytes that came, by reads of any size, of which there may be one or many: no index runs here.
     while have < buf.len() {
-        match read_behind(from, buf, have) {
-            Came::Bytes(n) => {
-                have += n;
-            }
-            Came::End => {
-                return Took {
-                    have: have,
-                    failed: false,
-                };
-            }
-            Came::Failed => {
-                return Took {
-                    have: have,
-                    failed: true,
-                };
-            }
+        let came = from.read(&mut buf[have..])?;
+        if came == 0 {
+            break;
         }
+        have += came;
     }
-    Took {
-        have: have,
-        failed: false,
-    }
+    Ok(have)
 }
 
 // By the system's number of the error.
