@@ -7,9 +7,9 @@ use lib.Signed.{non_neg, lt_z}
 use borrow.Author.Tests.{eqb-false, ne_eqb}
 use Rattle.octets.proofs.Laws.{either}
 use Rattle.manners.specs.declared.Came.TheVariants.{Bytes, End, Failed}
-use Rattle.manners.specs.declared.Sent.{Sent}
-use Rattle.manners.specs.declared.Sent.TheVariants.{All, Gone}
-use Rattle.manners.specs.declared.Sent.TheVariants.{Failed as NotSent}
+use Rattle.manners.specs.declared.Unsent.{Unsent}
+use Rattle.manners.specs.declared.Unsent.TheVariants.{Gone}
+use Rattle.manners.specs.declared.Unsent.TheVariants.{Failed as NotSent}
 use Rattle.manners.specs.Manners.{came_of, sent_of, Room, gone_error, ended_by, EndsWriting}
 
 -- ---- a read
@@ -42,7 +42,7 @@ pub sent-failed : (z : ℤ) → (z ≡ pos gone_error → ⊥) → NotSent ≡ s
 sent-failed (pos n) no' = sym (ap (λ (t : Bool). cond t Gone NotSent) (ne_eqb n gone_error (λ e. no' (ap pos e))))
 sent-failed (negsuc n) no' = refl
 
-pub ends_writing : (sent : Sent) (n : ℕ) → EndsWriting n (ended_by sent n)
-ends_writing All n = inl refl
-ends_writing Gone n = inr (inl refl)
-ends_writing NotSent n = inr (inr refl)
+pub ends_writing : (sent : Result (Unit {0}) Unsent) (n : ℕ) → EndsWriting n (ended_by sent n)
+ends_writing (Ok done) n = inl refl
+ends_writing (Err Gone) n = inr (inl refl)
+ends_writing (Err NotSent) n = inr (inr refl)

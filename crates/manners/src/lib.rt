@@ -1,8 +1,10 @@
 // The manners of a program: what it does around its answers, where a read or a write fails, with words, and as it ends.
 #![tactic(auto)]
 
-ghost use Rattle.std.specs.Prelude.{◌≡◌, ◌<◌, ◌⊎◌, length, take, None, Some, IfSome, IfOk, IfErr, OnOk};
+ghost use Rattle.std.specs.Prelude.{◌≡◌, ◌<◌, ◌⊎◌, pos, length, take, None, Some, IfSome, IfOk, IfErr, OnOk};
 ghost use Rattle.std.specs.Io.{ReadsAtMost, WritesAtMost};
+ghost use Rattle.std.specs.IoError.{raw_os_error};
+ghost use Rattle.std.specs.Option.{unwrap_or};
 ghost use Rattle.std.specs.Io.KnownBytes.{Keeps, Appends, ReadConsumes, WriteAppends};
 ghost use Rattle.manners.specs.Manners.{came_of, bytes_in, sent_of, ended_by, misused, status_of, Counts, Room, Worked};
 
@@ -22,10 +24,9 @@ pub enum Came {
     Failed,
 }
 
-// What came of a write.
+// Why a write failed.
 #[derive(Clone, Copy)]
-pub enum Sent {
-    All,
+pub enum Unsent {
     // whoever read the output has gone away
     Gone,
     Failed,
@@ -113,22 +114,22 @@ pub fn read_full<R: Read>(from: &mut R, buf: &mut [u8]) -> io::Result<usize>
     Ok(have)
 }
 
-// By the system's number of the error.
-fn unsent(error: i32) -> Sent
-    ensures { result ≡ sent_of error }
-{
-    if error == EPIPE {
-        return Sent::Gone;
+// By the system's number of the error, if it has one.
+impl From<io::Error> for Unsent {
+    ghost from_gives = { λ error unsent. unsent ≡ sent_of (unwrap_or (raw_os_error error) (pos 0)) };
+
+    fn from(error: io::Error) -> Unsent {
+        if error.raw_os_error().unwrap_or(0) == EPIPE {
+            return Unsent::Gone;
+        }
+        Unsent::Failed
     }
-    Sent::Failed
 }
 
 // Writes all of some bytes.
-pub fn write_out<W: Write>(to: &mut W, bytes: &[u8]) -> Sent {
-    match to.write_all(bytes) {
-        Ok(()) => Sent::All,
-        Err(e) => unsent(e.raw_os_error().unwrap_or(0)),
-    }
+pub fn write_out<W: Write>(to: &mut W, bytes: &[u8]) -> Result<(), Unsent> {
+    to.write_all(bytes)?;
+    Ok(())
 }
 
 // Writes what a program puts out, and then its report to another writer.
@@ -137,22 +138,19 @@ pub fn write_both<W: Write, V: Write>(
     output: &[u8],
     aside: &mut V,
     report: &[u8],
-) -> Sent {
-    match write_out(to, output) {
-        Sent::All => write_out(aside, report),
-        Sent::Gone => Sent::Gone,
-        Sent::Failed => Sent::Failed,
-    }
+) -> Result<(), Unsent> {
+    write_out(to, output)?;
+    write_out(aside, report)
 }
 
 // How a program ends with this number, once its last bytes were written or could not be.
-pub fn ended(sent: Sent, number: u8) -> Ending
+pub fn ended(sent: Result<(), Unsent>, number: u8) -> Ending
     ensures { result ≡ ended_by sent number }
 {
     match sent {
-        Sent::All => Ending::Over(number),
-        Sent::Gone => Ending::Unheard,
-        Sent::Failed => Ending::NotWritten,
+        Ok(()) => Ending::Over(number),
+        Err(Unsent::Gone) => Ending::Unheard,
+        Err(Unsent::Failed) => Ending::NotWritten,
     }
 }
 
