@@ -163,6 +163,19 @@ impl<S> Watched<S> {
     {
         Watched { inner, error: None }
     }
+
+    // What a call answered, after keeping its error.
+    fn keep<T>(&mut self, answer: io::Result<T>) -> io::Result<T>
+        ensures answer { result ≡ answer }
+        ensures inner { self.new.inner ≡ self.old.inner }
+        ensures kept { IfErr result (λ e. self.new.error ≡ Some e) }
+        ensures unchanged { OnOk result (self.new.error ≡ self.old.error) }
+    {
+        if let Err(e) = &answer {
+            self.error = Some(*e);
+        }
+        answer
+    }
 }
 
 impl<R: Read> Read for Watched<R> {
@@ -174,13 +187,8 @@ impl<R: Read> Read for Watched<R> {
         ensures kept { IfErr result (λ e. self.new.error ≡ Some e) }
         ensures unchanged { OnOk result (self.new.error ≡ self.old.error) }
     {
-        match self.inner.read(buf) {
-            Ok(n) => Ok(n),
-            Err(e) => {
-                self.error = Some(e);
-                Err(e)
-            }
-        }
+        let answer = self.inner.read(buf);
+        self.keep(answer)
     }
 }
 
@@ -193,13 +201,8 @@ impl<W: Write> Write for Watched<W> {
         ensures kept { IfErr result (λ e. self.new.error ≡ Some e) }
         ensures unchanged { OnOk result (self.new.error ≡ self.old.error) }
     {
-        match self.inner.write(buf) {
-            Ok(n) => Ok(n),
-            Err(e) => {
-                self.error = Some(e);
-                Err(e)
-            }
-        }
+        let answer = self.inner.write(buf);
+        self.keep(answer)
     }
 
     fn flush(&mut self) -> io::Result<()>
@@ -207,13 +210,8 @@ impl<W: Write> Write for Watched<W> {
         ensures kept { IfErr result (λ e. self.new.error ≡ Some e) }
         ensures unchanged { OnOk result (self.new.error ≡ self.old.error) }
     {
-        match self.inner.flush() {
-            Ok(()) => Ok(()),
-            Err(e) => {
-                self.error = Some(e);
-                Err(e)
-            }
-        }
+        let answer = self.inner.flush();
+        self.keep(answer)
     }
 
     fn write_all(&mut self, buf: &[u8]) -> io::Result<()>
@@ -221,13 +219,8 @@ impl<W: Write> Write for Watched<W> {
         ensures kept { IfErr result (λ e. self.new.error ≡ Some e) }
         ensures unchanged { OnOk result (self.new.error ≡ self.old.error) }
     {
-        match self.inner.write_all(buf) {
-            Ok(()) => Ok(()),
-            Err(e) => {
-                self.error = Some(e);
-                Err(e)
-            }
-        }
+        let answer = self.inner.write_all(buf);
+        self.keep(answer)
     }
 }
 
