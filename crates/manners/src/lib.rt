@@ -15,6 +15,7 @@ use std::io::{Read, Stderr, Stdin, Stdout, Write};
 use std::rt::Env;
 
 // What came of a read that had room.
+// Stays: (d) three ways to go on, each with a step of its own; in a Result the end would be `Ok(0)`, a number among those of bytes that came.
 #[derive(Clone, Copy)]
 pub enum Came {
     // so many bytes, one at least
@@ -33,6 +34,8 @@ pub enum Unsent {
 }
 
 // How a program's work ended.
+// Stays: (d) four ways beside the number, each told apart by the status or by what is said of it: of these `Unheard` is no failure, and an ending
+// is where a program's work stops, with nothing after it that a `?` would pass over.
 #[derive(Clone, Copy)]
 pub enum Ending {
     // all was read and answered; the number is that of the last line or of the refusal
@@ -65,13 +68,15 @@ pub struct Watched<S> {
 // ---- reading and writing
 
 // By what the system answered to a read.
-fn told(got: io::Result<usize>) -> Came
-    ensures { result ≡ came_of got }
-{
-    match got {
-        Ok(0) => Came::End,
-        Ok(n) => Came::Bytes(n),
-        Err(_) => Came::Failed,
+impl From<io::Result<usize>> for Came {
+    ghost from_gives = { λ got came. came ≡ came_of got };
+
+    fn from(got: io::Result<usize>) -> Came {
+        match got {
+            Ok(0) => Came::End,
+            Ok(n) => Came::Bytes(n),
+            Err(_) => Came::Failed,
+        }
     }
 }
 
@@ -92,8 +97,7 @@ pub fn read_behind<R: Read>(from: &mut R, block: &mut [u8], have: usize) -> Came
     ensures room { Room (length block.old) have result }
     ensures block_unchanged { take have block.new ≡ take have block.old }
 {
-    let got = from.read(&mut block[have..]);
-    told(got)
+    Came::from(from.read(&mut block[have..]))
 }
 
 // Reads until the buffer is full or the input ends; how many bytes came. Where a read failed, its error: then nothing more is said of the buffer
