@@ -3,7 +3,6 @@ use mathlib.Core.Path.{◌≡◌, refl, subst, ◌∙◌}
 use mathlib.Core.Bool.{true, false}
 use mathlib.Core.List.{List}
 use Prim.Native.Nat.{ℕ, ◌+◌, ◌≤◌}
-use native.Mathlib.Omega.{arith}
 use lib.ListN.{length, take}
 use Rattle.records.specs.declared.Entry.{Entry}
 use Rattle.records.specs.Records.{entry_in, is_whole, last_line}
@@ -12,7 +11,8 @@ use Rattle.records.specs.Channels.{Channels, output_of, report_of}
 use Rattle.records.specs.Channels.{Fills as Filled}
 use Rattle.records.proofs.Transcripts.{filled_alike}
 use Rattle.programs.specs.Programs.{alone, PutsLast}
-use Rattle.manners.specs.declared.Sent.{Sent}
+use Rattle.std.specs.Prelude.{Result}
+use Rattle.manners.specs.declared.Unsent.{Unsent}
 use Rattle.manners.specs.declared.Ending.{Ending}
 use Rattle.manners.specs.declared.Ending.TheVariants.{Over, Spent}
 use Rattle.manners.specs.declared.Ending.TheVariants.{Unheard as EndUnheard, NotRead as EndNotRead, NotWritten as EndNotWritten}
@@ -43,7 +43,7 @@ module _ {S : Type 0} (c : Channels S) where
     read-inside ahead inside =
         filled_before (output_of c) (length out) s t xs out out' read wrote output at have (unread-length old at have ahead inside) ahead
 
-    pub both_say : (e : Entry) → e ≡ entry_in c.forms (unread old (at + read) have) → (sent : Sent) (new : List ℕ) (u : Unread) → Proceeds sent e old at (at + read) have new u → BothSay c s old at have out report t new out' wrote report' told u
+    pub both_say : (e : Entry) → e ≡ entry_in c.forms (unread old (at + read) have) → (sent : Result (Unit {0}) Unsent) (new : List ℕ) (u : Unread) → Proceeds sent e old at (at + read) have new u → BothSay c s old at have out report t new out' wrote report' told u
     both_say e stands sent new u g =
         record {
           output = turn_says (output_of c) (length out) s t xs out out' read wrote output old at have new u e stands sent g;

@@ -2,6 +2,7 @@
 use mathlib.Core.Path.{◌≡◌, refl, sym, ap, ap₂, subst, ◌∙◌}
 use mathlib.Core.Bool.{Bool, true, false, cond, true≢false}
 use mathlib.Core.List.{List, [], ◌∷◌, ◌++◌, append-nil}
+use Rattle.std.specs.Prelude.{Result, Ok, Err}
 use mathlib.Core.Logic.{◌⊎◌, inl, inr, ⊎_elim}
 use Prim.Native.Nat.{ℕ, ◌+◌, ◌-◌, ◌≤◌, ◌<◌}
 use native.Mathlib.Nat.{sub-zero}
@@ -14,16 +15,15 @@ use lib.Seq.{take-suc, take-suc-set, take-take, take_all, take_at, length-take-l
 use Rattle.text.specs.Text.{Put}
 use Rattle.records.specs.declared.Entry.{Entry}
 use Rattle.records.specs.declared.Entry.TheVariants.{End, Whole, Unknown, Cut}
-use Rattle.records.specs.Records.{Forms, mark_in, entry_in, is_whole, end_number, last_line, longest_last, Record}
+use Rattle.records.specs.Records.{Forms, entry_in, is_whole, end_number, last_line, Record}
 use Rattle.records.specs.Transcripts.{Program, filled}
-use Rattle.records.proofs.Entries.{Within, entry_short, length_last}
 use Rattle.records.proofs.Counted.{drop-take}
-use Rattle.records.proofs.Transcripts.{filled-read, filled_keeps, Fits, filled_room}
+use Rattle.records.proofs.Transcripts.{filled-read, filled_keeps}
 use Rattle.manners.specs.declared.Came.{Came}
 use Rattle.manners.specs.declared.Came.TheVariants.{Bytes}
 use Rattle.manners.specs.declared.Came.TheVariants.{End as CameEnd, Failed as CameFailed}
-use Rattle.manners.specs.declared.Sent.{Sent}
-use Rattle.manners.specs.declared.Sent.TheVariants.{All, Gone, Failed}
+use Rattle.manners.specs.declared.Unsent.{Unsent}
+use Rattle.manners.specs.declared.Unsent.TheVariants.{Gone, Failed}
 use Rattle.manners.specs.declared.Ending.{Ending}
 use Rattle.manners.specs.declared.Ending.TheVariants.{Over, Spent}
 use Rattle.manners.specs.declared.Ending.TheVariants.{Unheard as EndUnheard, NotRead as EndNotRead, NotWritten as EndNotWritten}
@@ -31,7 +31,6 @@ use Rattle.manners.specs.Manners.{bytes_in, Room, status_of}
 use Rattle.blocks.specs.declared.Step.{Step}
 use Rattle.blocks.specs.declared.Step.TheVariants.{Next, Last, NotRead, Unheard, NotWritten}
 use Rattle.blocks.specs.declared.Unread.{Unread}
-use Rattle.blocks.specs.declared.Ended.{Ended}
 use Rattle.blocks.specs.Blocks.{most_turns, unread, step_after, Stays, Brings, Refilled, Advances, Follows, Proceeds, TurnSays, Concludes, Concluded, Settles, Ends, run_statuses}
 
 -- ---- a byte moved down from the place from + i to the place i
@@ -173,8 +172,8 @@ module _ (old : List ℕ) (at have : ℕ) (new : List ℕ) (u : Unread) where
         (advances_cases (entry_in forms (unread old at have)) f)
 
 -- by what came of a write
-pub proceeds : {f : Sent} (e : Entry) (old : List ℕ) (at next have : ℕ) (new : List ℕ) (u : Unread) (sent : Sent) → sent ≡ f → Proceeds f e old at next have new u → Proceeds sent e old at next have new u
-proceeds e old at next have new u sent is = subst (λ (k : Sent). Proceeds k e old at next have new u) (sym is)
+pub proceeds : {f : Result (Unit {0}) Unsent} (e : Entry) (old : List ℕ) (at next have : ℕ) (new : List ℕ) (u : Unread) (sent : Result (Unit {0}) Unsent) → sent ≡ f → Proceeds f e old at next have new u → Proceeds sent e old at next have new u
+proceeds e old at next have new u sent is = subst (λ (k : Result (Unit {0}) Unsent). Proceeds k e old at next have new u) (sym is)
 
 -- ---- a turn: the unread part xs of a block was filled
 
@@ -191,13 +190,13 @@ module _ {S : Type 0} (p : Program S) (room : ℕ) (s t : S) (xs out after : Lis
 
   module _ (old : List ℕ) (at have : ℕ) (new : List ℕ) (u : Unread) where
     -- what stands behind the records, and what came of writing them
-    pub turn_says : (e : Entry) → e ≡ entry_in p.forms (unread old (at + read) have) → (sent : Sent) → Proceeds sent e old at (at + read) have new u → TurnSays p.forms (filled p room s xs) old at have out t new after wrote u
+    pub turn_says : (e : Entry) → e ≡ entry_in p.forms (unread old (at + read) have) → (sent : Result (Unit {0}) Unsent) → Proceeds sent e old at (at + read) have new u → TurnSays p.forms (filled p room s xs) old at have out t new after wrote u
     turn_says e stands sent g = record { state = says.0; text = says.2; place = place sent g }
       where
-        place : (sent : Sent) → Proceeds sent e old at (at + read) have new u → Follows p.forms old (at + (filled p room s xs).read) have new u ⊎ (Stays old at have Unheard new u ⊎ Stays old at have NotWritten new u)
-        place All g = inl (subst (λ (n : ℕ). Follows p.forms old (at + n) have new u) says.1 (subst (λ (k : Entry). Advances k old (at + read) have new u) stands g))
-        place Gone g = inr (inl g)
-        place Failed g = inr (inr g)
+        place : (sent : Result (Unit {0}) Unsent) → Proceeds sent e old at (at + read) have new u → Follows p.forms old (at + (filled p room s xs).read) have new u ⊎ (Stays old at have Unheard new u ⊎ Stays old at have NotWritten new u)
+        place (Ok done) g = inl (subst (λ (n : ℕ). Follows p.forms old (at + n) have new u) says.1 (subst (λ (k : Entry). Advances k old (at + read) have new u) stands g))
+        place (Err Gone) g = inr (inl g)
+        place (Err Failed) g = inr (inr g)
 
 -- ---- after a turn the state is in order, the unread part is inside the block, and where no more comes no whole record stands
 

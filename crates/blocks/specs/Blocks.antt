@@ -1,5 +1,5 @@
 -- The block that a file of records is read through: what is unread of it, what a turn of a program leaves, and how a run ends.
-use Rattle.std.specs.Prelude.{ℕ, ◌+◌, ◌-◌, ◌^◌, ◌≤◌, ◌≡◌, Bool, true, false, List, [], ◌∷◌, ◌++◌, ◌⊎◌, length, take, drop}
+use Rattle.std.specs.Prelude.{ℕ, ◌+◌, ◌-◌, ◌^◌, ◌≤◌, ◌≡◌, Bool, true, false, List, [], ◌∷◌, ◌++◌, ◌⊎◌, length, take, drop, Result, Ok, Err}
 use Rattle.text.specs.Text.{Put}
 use Rattle.records.specs.declared.Entry.{Entry}
 use Rattle.records.specs.declared.Entry.TheVariants.{End, Whole, Unknown, Cut}
@@ -8,8 +8,8 @@ use Rattle.records.specs.Transcripts.{Filled}
 use Rattle.manners.specs.declared.Came.{Came}
 use Rattle.manners.specs.declared.Came.TheVariants.{Bytes}
 use Rattle.manners.specs.declared.Came.TheVariants.{End as CameEnd, Failed as CameFailed}
-use Rattle.manners.specs.declared.Sent.{Sent}
-use Rattle.manners.specs.declared.Sent.TheVariants.{All, Gone, Failed}
+use Rattle.manners.specs.declared.Unsent.{Unsent}
+use Rattle.manners.specs.declared.Unsent.TheVariants.{Gone, Failed}
 use Rattle.manners.specs.declared.Ending.{Ending}
 use Rattle.manners.specs.declared.Ending.TheVariants.{Over, Spent}
 use Rattle.manners.specs.declared.Ending.TheVariants.{Unheard as EndUnheard, NotRead as EndNotRead, NotWritten as EndNotWritten}
@@ -74,10 +74,10 @@ abbrev pub Follows : Forms → List ℕ → ℕ → ℕ → List ℕ → Unread 
 Follows forms old at have new u = Advances (entry_in forms (unread old at have)) old at have new u
 
 -- by what came of writing the records between two places: it goes on behind them; or, where they could not be written, nothing moves
-abbrev pub Proceeds : Sent → Entry → List ℕ → ℕ → ℕ → ℕ → List ℕ → Unread → Type 0
-Proceeds All e old at next have new u = Advances e old next have new u
-Proceeds Gone e old at next have new u = Stays old at have Unheard new u
-Proceeds Failed e old at next have new u = Stays old at have NotWritten new u
+abbrev pub Proceeds : Result (Unit {0}) Unsent → Entry → List ℕ → ℕ → ℕ → ℕ → List ℕ → Unread → Type 0
+Proceeds (Ok done) e old at next have new u = Advances e old next have new u
+Proceeds (Err Gone) e old at next have new u = Stays old at have Unheard new u
+Proceeds (Err Failed) e old at next have new u = Stays old at have NotWritten new u
 
 -- ---- a turn: the unread part of the block old, from at up to have, gave f, of which the text was put to the start of the output
 

@@ -9,7 +9,7 @@ ghost use Rattle.programs.specs.Programs.{Tellable};
 ghost use Rattle.blocks.specs.Blocks.{unread as Blocks·unread, step_after, Refilled, Advances, Proceeds, stops_at, Concludes, run_statuses};
 ghost use Rattle.blocks.specs.Channels.{BothSay, LastSaid, RunSays};
 
-use manners::{Came, Ending, Sent};
+use manners::{Came, Ending, Unsent};
 use programs::Program;
 use records::Entry;
 use std::io::{Read, Write};
@@ -99,7 +99,7 @@ fn advance<R: Read>(from: &mut R, block: &mut [u8], at: usize, have: usize, entr
 
 // What follows once the records between two places were written, or could not be.
 pub fn proceed<R: Read>(
-    sent: Sent,
+    sent: Result<(), Unsent>,
     from: &mut R,
     block: &mut [u8],
     at: usize,
@@ -112,9 +112,9 @@ pub fn proceed<R: Read>(
     ensures { Proceeds sent entry block.old at next have block.new result }
 {
     match sent {
-        Sent::All => advance(from, block, next, have, entry),
-        Sent::Gone => stay(at, have, Step::Unheard),
-        Sent::Failed => stay(at, have, Step::NotWritten),
+        Ok(()) => advance(from, block, next, have, entry),
+        Err(Unsent::Gone) => stay(at, have, Step::Unheard),
+        Err(Unsent::Failed) => stay(at, have, Step::NotWritten),
     }
 }
 

@@ -1,31 +1,14 @@
 -- What the system's answers come to. Assumes nothing.
-use Rattle.std.proofs.Common.{ℕ, ◌-◌, ◌≤◌, ◌≡◌, refl, sym, ap, ◌∙◌, Bool, true, cond, arith, inl, inr}
+use Rattle.std.proofs.Common.{ℕ, ◌-◌, ◌≤◌, ◌≡◌, refl, sym, ap, Bool, cond, arith, inl, inr}
 use Rattle.std.specs.Prelude.{Result, Ok, Err, IfOk, eqb, ℤ, pos, negsuc}
-use mathlib.Core.Bool.{true≢false}
-use lib.Dec.{T}
-use lib.Signed.{non_neg, lt_z}
 use borrow.Author.Tests.{eqb-false, ne_eqb}
 use Rattle.octets.proofs.Laws.{either}
-use Rattle.manners.specs.declared.Came.TheVariants.{Bytes, End, Failed}
-use Rattle.manners.specs.declared.Sent.{Sent}
-use Rattle.manners.specs.declared.Sent.TheVariants.{All, Gone}
-use Rattle.manners.specs.declared.Sent.TheVariants.{Failed as NotSent}
+use Rattle.manners.specs.declared.Unsent.{Unsent}
+use Rattle.manners.specs.declared.Unsent.TheVariants.{Gone}
+use Rattle.manners.specs.declared.Unsent.TheVariants.{Failed as NotSent}
 use Rattle.manners.specs.Manners.{came_of, sent_of, Room, gone_error, ended_by, EndsWriting}
 
 -- ---- a read
-
-pub came_failed : {E : Type 0} (r : Result ℕ E) (e : E) → r ≡ Err e → Failed ≡ came_of r
-came_failed r e is = ap came_of (sym is)
-
-pub came_some : {E : Type 0} (r : Result ℕ E) (n : ℕ) → r ≡ Ok n → (n ≡ 0 → ⊥) → Bytes n ≡ came_of r
-came_some r n is h = sym (ap (λ (t : Bool). cond t End (Bytes n)) (ne_eqb n 0 h)) ∙ ap came_of (sym is)
-
-pub came_none : {E : Type 0} (r : Result ℕ E) → r ≡ Ok 0 → End ≡ came_of r
-came_none r is = ap came_of (sym is)
-
-pub some_nonneg : (z : ℤ) → lt_z (pos 0) z ≡ true → T (non_neg z)
-some_nonneg (pos n) h = tt
-some_nonneg (negsuc n) h = absurd (true≢false (sym h))
 
 -- what came into the room behind the first bytes of a block lies inside it
 pub moved_inside : {E : Type 0} (block have : ℕ) (r : Result ℕ E) → have ≤ block → IfOk r (λ n. n ≤ block - have) → Room block have (came_of r)
@@ -42,7 +25,7 @@ pub sent-failed : (z : ℤ) → (z ≡ pos gone_error → ⊥) → NotSent ≡ s
 sent-failed (pos n) no' = sym (ap (λ (t : Bool). cond t Gone NotSent) (ne_eqb n gone_error (λ e. no' (ap pos e))))
 sent-failed (negsuc n) no' = refl
 
-pub ends_writing : (sent : Sent) (n : ℕ) → EndsWriting n (ended_by sent n)
-ends_writing All n = inl refl
-ends_writing Gone n = inr (inl refl)
-ends_writing NotSent n = inr (inr refl)
+pub ends_writing : (sent : Result (Unit {0}) Unsent) (n : ℕ) → EndsWriting n (ended_by sent n)
+ends_writing (Ok done) n = inl refl
+ends_writing (Err Gone) n = inr (inl refl)
+ends_writing (Err NotSent) n = inr (inr refl)

@@ -3,9 +3,9 @@ use Rattle.std.specs.Prelude.{ℕ, ◌+◌, ◌≤◌, ◌≡◌, cond, ◌⊎�
 use Rattle.std.specs.Fn.{Once}
 use Rattle.manners.specs.declared.Came.{Came}
 use Rattle.manners.specs.declared.Came.TheVariants.{Bytes, End, Failed}
-use Rattle.manners.specs.declared.Sent.{Sent}
-use Rattle.manners.specs.declared.Sent.TheVariants.{All, Gone}
-use Rattle.manners.specs.declared.Sent.TheVariants.{Failed as NotSent}
+use Rattle.manners.specs.declared.Unsent.{Unsent}
+use Rattle.manners.specs.declared.Unsent.TheVariants.{Gone}
+use Rattle.manners.specs.declared.Unsent.TheVariants.{Failed as NotSent}
 use Rattle.manners.specs.declared.Ending.{Ending}
 use Rattle.manners.specs.declared.Ending.TheVariants.{Over, Unheard, NotRead, NotWritten, Spent}
 
@@ -36,15 +36,15 @@ Counts n buf = (n ≤ length buf) × (n ≡ length (take n buf))
 abbrev pub gone_error : ℕ
 gone_error = 32
 
-abbrev pub sent_of : ℤ → Sent
+abbrev pub sent_of : ℤ → Unsent
 sent_of (pos n) = cond (eqb n gone_error) Gone NotSent
 sent_of (negsuc n) = NotSent
 
 -- how a program ends with a number, once its last bytes were written or could not be
-abbrev pub ended_by : Sent → ℕ → Ending
-ended_by All n = Over n
-ended_by Gone n = Unheard
-ended_by NotSent n = NotWritten
+abbrev pub ended_by : Result (Unit {0}) Unsent → ℕ → Ending
+ended_by (Ok done) n = Over n
+ended_by (Err Gone) n = Unheard
+ended_by (Err NotSent) n = NotWritten
 
 -- one of these
 abbrev pub EndsWriting : ℕ → Ending → Type 0

@@ -1,8 +1,10 @@
 // The manners of a program: what it does around its answers, where a read or a write fails, with words, and as it ends.
 #![tactic(auto)]
 
-ghost use Rattle.std.specs.Prelude.{◌≡◌, ◌<◌, ◌⊎◌, length, take, None, Some, IfSome, IfErr, OnOk};
+ghost use Rattle.std.specs.Prelude.{◌≡◌, ◌<◌, ◌⊎◌, pos, length, take, None, Some, IfSome, IfOk, IfErr, OnOk};
 ghost use Rattle.std.specs.Io.{ReadsAtMost, WritesAtMost};
+ghost use Rattle.std.specs.IoError.{raw_os_error};
+ghost use Rattle.std.specs.Option.{unwrap_or};
 ghost use Rattle.std.specs.Io.KnownBytes.{Keeps, Appends, ReadConsumes, WriteAppends};
 ghost use Rattle.manners.specs.Manners.{came_of, bytes_in, sent_of, ended_by, misused, status_of, Counts, Room, Worked};
 
@@ -13,6 +15,7 @@ use std::io::{Read, Stderr, Stdin, Stdout, Write};
 use std::rt::Env;
 
 // What came of a read that had room.
+// Stays: (d) three ways to go on, each with a step of its own; in a Result the end would be `Ok(0)`, a number among those of bytes that came.
 #[derive(Clone, Copy)]
 pub enum Came {
     // so many bytes, one at least
@@ -22,16 +25,17 @@ pub enum Came {
     Failed,
 }
 
-// What came of a write.
+// Why a write failed.
 #[derive(Clone, Copy)]
-pub enum Sent {
-    All,
+pub enum Unsent {
     // whoever read the output has gone away
     Gone,
     Failed,
 }
 
 // How a program's work ended.
+// Stays: (d) four ways beside the number, each told apart by the status or by what is said of it: of these `Unheard` is no failure, and an ending
+// is where a program's work stops, with nothing after it that a `?` would pass over.
 #[derive(Clone, Copy)]
 pub enum Ending {
     // all was read and answered; the number is that of the last line or of the refusal
@@ -44,13 +48,6 @@ pub enum Ending {
     NotWritten,
     // no turn was left
     Spent,
-}
-
-// A text that was read: how many bytes it has, and whether a read failed.
-#[derive(Clone, Copy)]
-pub struct Took {
-    pub have: usize,
-    pub failed: bool,
 }
 
 // The statuses that are no number of an answer: a read or a write failed; the program was not used as it has to be.
@@ -71,13 +68,15 @@ pub struct Watched<S> {
 // ---- reading and writing
 
 // By what the system answered to a read.
-fn told(got: io::Result<usize>) -> Came
-    ensures { result ≡ came_of got }
-{
-    match got {
-        Ok(0) => Came::End,
-        Ok(n) => Came::Bytes(n),
-        Err(_) => Came::Failed,
+impl From<io::Result<usize>> for Came {
+    ghost from_gives = { λ got came. came ≡ came_of got };
+
+    fn from(got: io::Result<usize>) -> Came {
+        match got {
+            Ok(0) => Came::End,
+            Ok(n) => Came::Bytes(n),
+            Err(_) => Came::Failed,
+        }
     }
 }
 
@@ -98,56 +97,43 @@ pub fn read_behind<R: Read>(from: &mut R, block: &mut [u8], have: usize) -> Came
     ensures room { Room (length block.old) have result }
     ensures block_unchanged { take have block.new ≡ take have block.old }
 {
-    let got = from.read(&mut block[have..]);
-    told(got)
+    Came::from(from.read(&mut block[have..]))
 }
 
-// Reads until the buffer is full, the input ends or a read fails.
-pub fn read_full<R: Read>(from: &mut R, buf: &mut [u8]) -> Took
-    ensures { Counts result.have buf.new }
+// Reads until the buffer is full or the input ends; how many bytes came. Where a read failed, its error: then nothing more is said of the buffer
+// than that it is as long as it was.
+pub fn read_full<R: Read>(from: &mut R, buf: &mut [u8]) -> io::Result<usize>
+    ensures counts { IfOk result (λ have. Counts have buf.new) }
+    ensures length { length buf.new ≡ length buf.old }
 {
     let mut have = 0;
+    // Stays: (d) what is counted is the bytes that came, by reads of any size, of which there may be one or many: no index runs here.
     while have < buf.len() {
-        match read_behind(from, buf, have) {
-            Came::Bytes(n) => {
-                have += n;
-            }
-            Came::End => {
-                return Took {
-                    have: have,
-                    failed: false,
-                };
-            }
-            Came::Failed => {
-                return Took {
-                    have: have,
-                    failed: true,
-                };
-            }
+        let came = from.read(&mut buf[have..])?;
+        if came == 0 {
+            break;
         }
+        have += came;
     }
-    Took {
-        have: have,
-        failed: false,
-    }
+    Ok(have)
 }
 
-// By the system's number of the error.
-fn unsent(error: i32) -> Sent
-    ensures { result ≡ sent_of error }
-{
-    if error == EPIPE {
-        return Sent::Gone;
+// By the system's number of the error, if it has one.
+impl From<io::Error> for Unsent {
+    ghost from_gives = { λ error unsent. unsent ≡ sent_of (unwrap_or (raw_os_error error) (pos 0)) };
+
+    fn from(error: io::Error) -> Unsent {
+        if error.raw_os_error().unwrap_or(0) == EPIPE {
+            return Unsent::Gone;
+        }
+        Unsent::Failed
     }
-    Sent::Failed
 }
 
 // Writes all of some bytes.
-pub fn write_out<W: Write>(to: &mut W, bytes: &[u8]) -> Sent {
-    match to.write_all(bytes) {
-        Ok(()) => Sent::All,
-        Err(e) => unsent(e.raw_os_error().unwrap_or(0)),
-    }
+pub fn write_out<W: Write>(to: &mut W, bytes: &[u8]) -> Result<(), Unsent> {
+    to.write_all(bytes)?;
+    Ok(())
 }
 
 // Writes what a program puts out, and then its report to another writer.
@@ -156,22 +142,19 @@ pub fn write_both<W: Write, V: Write>(
     output: &[u8],
     aside: &mut V,
     report: &[u8],
-) -> Sent {
-    match write_out(to, output) {
-        Sent::All => write_out(aside, report),
-        Sent::Gone => Sent::Gone,
-        Sent::Failed => Sent::Failed,
-    }
+) -> Result<(), Unsent> {
+    write_out(to, output)?;
+    write_out(aside, report)
 }
 
 // How a program ends with this number, once its last bytes were written or could not be.
-pub fn ended(sent: Sent, number: u8) -> Ending
+pub fn ended(sent: Result<(), Unsent>, number: u8) -> Ending
     ensures { result ≡ ended_by sent number }
 {
     match sent {
-        Sent::All => Ending::Over(number),
-        Sent::Gone => Ending::Unheard,
-        Sent::Failed => Ending::NotWritten,
+        Ok(()) => Ending::Over(number),
+        Err(Unsent::Gone) => Ending::Unheard,
+        Err(Unsent::Failed) => Ending::NotWritten,
     }
 }
 
@@ -184,6 +167,19 @@ impl<S> Watched<S> {
     {
         Watched { inner, error: None }
     }
+
+    // What a call answered, after keeping its error.
+    fn keep<T>(&mut self, answer: io::Result<T>) -> io::Result<T>
+        ensures answer { result ≡ answer }
+        ensures inner { self.new.inner ≡ self.old.inner }
+        ensures kept { IfErr result (λ e. self.new.error ≡ Some e) }
+        ensures unchanged { OnOk result (self.new.error ≡ self.old.error) }
+    {
+        if let Err(e) = &answer {
+            self.error = Some(*e);
+        }
+        answer
+    }
 }
 
 impl<R: Read> Read for Watched<R> {
@@ -195,13 +191,8 @@ impl<R: Read> Read for Watched<R> {
         ensures kept { IfErr result (λ e. self.new.error ≡ Some e) }
         ensures unchanged { OnOk result (self.new.error ≡ self.old.error) }
     {
-        match self.inner.read(buf) {
-            Ok(n) => Ok(n),
-            Err(e) => {
-                self.error = Some(e);
-                Err(e)
-            }
-        }
+        let answer = self.inner.read(buf);
+        self.keep(answer)
     }
 }
 
@@ -214,13 +205,8 @@ impl<W: Write> Write for Watched<W> {
         ensures kept { IfErr result (λ e. self.new.error ≡ Some e) }
         ensures unchanged { OnOk result (self.new.error ≡ self.old.error) }
     {
-        match self.inner.write(buf) {
-            Ok(n) => Ok(n),
-            Err(e) => {
-                self.error = Some(e);
-                Err(e)
-            }
-        }
+        let answer = self.inner.write(buf);
+        self.keep(answer)
     }
 
     fn flush(&mut self) -> io::Result<()>
@@ -228,13 +214,8 @@ impl<W: Write> Write for Watched<W> {
         ensures kept { IfErr result (λ e. self.new.error ≡ Some e) }
         ensures unchanged { OnOk result (self.new.error ≡ self.old.error) }
     {
-        match self.inner.flush() {
-            Ok(()) => Ok(()),
-            Err(e) => {
-                self.error = Some(e);
-                Err(e)
-            }
-        }
+        let answer = self.inner.flush();
+        self.keep(answer)
     }
 
     fn write_all(&mut self, buf: &[u8]) -> io::Result<()>
@@ -242,13 +223,8 @@ impl<W: Write> Write for Watched<W> {
         ensures kept { IfErr result (λ e. self.new.error ≡ Some e) }
         ensures unchanged { OnOk result (self.new.error ≡ self.old.error) }
     {
-        match self.inner.write_all(buf) {
-            Ok(()) => Ok(()),
-            Err(e) => {
-                self.error = Some(e);
-                Err(e)
-            }
-        }
+        let answer = self.inner.write_all(buf);
+        self.keep(answer)
     }
 }
 

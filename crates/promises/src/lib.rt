@@ -23,7 +23,7 @@ ghost use Rattle.replies.specs.Replies.{reply_statuses};
 
 use blocks::Step;
 use desk::{Desk, Taken};
-use manners::{Came, Ending, Sent};
+use manners::{Came, Ending, Unsent};
 use meaning::{Kind, Listed, Refusal};
 use records::{Entry, Form};
 use slots::Slot;
@@ -203,7 +203,7 @@ pub fn status_of(ending: Ending) -> u8
     manners::status_of(ending)
 }
 
-pub fn ended(sent: Sent, number: u8) -> Ending
+pub fn ended(sent: Result<(), Unsent>, number: u8) -> Ending
     ensures { result ≡ ended_by sent number }
 {
     manners::ended(sent, number)

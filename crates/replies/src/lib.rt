@@ -60,10 +60,8 @@ pub fn reply<R: Read, W: Write, V: Write>(from: &mut R, to: &mut W, reasons: &mu
     ensures { T (among reply_statuses (status_of result)) }
 {
     let mut text = [0u8; 65536];
-    let took = manners::read_full(from, &mut text);
-    if took.failed {
+    let Ok(have) = manners::read_full(from, &mut text) else {
         return Ending::NotRead;
-    }
-    let have = took.have;
+    };
     answer(&text[..have], to, reasons)
 }
