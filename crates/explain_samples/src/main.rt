@@ -2,45 +2,14 @@
 // large one.
 #![tactic(auto)]
 
-use std::io::Write;
-use std::rt::{Env, Files};
-
-fn run_slowly<R: Files + Eprint, W: Write>(rt: &R, to: &mut W, name: &str) {
-    let mut file = samples::open(rt, to, name, 65539, b"\n");
-    if file.is_open() {
-        let mut block = [0u8; 65539];
-        let ending = explain_stream::copy_slowly(&mut file, to, &mut block);
-        samples::end(to, ending);
-    }
-}
-
-fn run<R: Files + Eprint, W: Write>(rt: &R, to: &mut W, name: &str) {
-    let mut file = samples::open(rt, to, name, 131072, b"\n");
-    if file.is_open() {
-        let mut block = [0u8; 131072];
-        let ending = explain_stream::copy(&mut file, to, &mut block);
-        samples::end(to, ending);
-    }
-}
-
-// The file that one argument names; false where there is none.
-fn run_named<R: Env + Files + Eprint, W: Write>(rt: &R, to: &mut W, index: usize) -> bool {
-    let mut memory = [0u8; 4096];
-    match samples::named(rt, index, &mut memory) {
-        Some(name) => {
-            run_slowly(rt, to, name);
-            run(rt, to, name);
-            true
-        }
-        None => false,
-    }
-}
-
 fn main(rt: HostRuntime) {
     let mut to = rt.stdout();
-    for index in 1..64 {
-        if !run_named(&rt, &mut to, index) {
-            break;
-        }
-    }
+    samples::each(&rt, |name| {
+        samples::print(&rt, &mut to, name, 65539, |file, to| {
+            explain_stream::copy_slowly(file, to, &mut [0; 65539])
+        });
+        samples::print(&rt, &mut to, name, 131072, |file, to| {
+            explain_stream::copy(file, to, &mut [0; 131072])
+        });
+    });
 }

@@ -2,7 +2,7 @@
 #![tactic(auto)]
 
 use std::io::{Stdout, Write};
-use std::rt::{Env, Files};
+use std::rt::Files;
 
 // The answer to the text of a file.
 fn run<R: Files + Eprint>(rt: &R, out: Stdout, name: &str) {
@@ -18,22 +18,6 @@ fn run<R: Files + Eprint>(rt: &R, out: Stdout, name: &str) {
     }
 }
 
-// The text that one argument names; false where there is none.
-fn run_named<R: Env + Files + Eprint>(rt: &R, out: Stdout, index: usize) -> bool {
-    let mut memory = [0u8; 4096];
-    match samples::named(rt, index, &mut memory) {
-        Some(name) => {
-            run(rt, out, name);
-            true
-        }
-        None => false,
-    }
-}
-
 fn main(rt: HostRuntime) {
-    for index in 1..64 {
-        if !run_named(&rt, rt.stdout(), index) {
-            break;
-        }
-    }
+    samples::each(&rt, |name| run(&rt, rt.stdout(), name));
 }
