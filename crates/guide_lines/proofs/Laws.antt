@@ -1,7 +1,7 @@
--- Laws of the lines: what is left, put here, makes the whole; a name byte by byte, and the names of a section one by one; and how long they all are. Assumes nothing.
-use mathlib.Core.Path.{◌≡◌, refl, sym, ap, ap₂, ◌∙◌}
+-- Laws of the lines: what is left to put of the whole; a name byte by byte, and the names of a section one by one; and how long they all are. Assumes nothing.
+use mathlib.Core.Path.{◌≡◌, refl, sym, ap, subst, ◌∙◌}
 use mathlib.Core.Bool.{and-false}
-use mathlib.Core.List.{List, [], ◌∷◌, ◌++◌, flat_map}
+use mathlib.Core.List.{List, [], ◌∷◌, ◌++◌, append_assoc, append-nil, flat_map}
 use mathlib.Core.Logic.{◌⊎◌, inl, inr}
 use Prim.Native.Nat.{ℕ, suc, ◌+◌, ◌-◌, ◌*◌, ◌^◌, ◌≤◌, ◌<◌}
 use Prim.Native.Char.{code}
@@ -10,12 +10,14 @@ use native.Mathlib.Omega.{arith}
 use borrow.Author.Tests.{eq-eqb, ne_eqb, le-leb, lt-leb}
 use lib.Dec.{eqb, leb}
 use lib.ListN.{length, get_or, take, drop, length-append, drop_of_length-le}
-use lib.Seq.{drop-cons, sets}
+use lib.Seq.{drop-cons}
 use Rattle.std.specs.Prelude.{Result, Ok, Err}
 use Rattle.octets.proofs.Laws.{either}
-use Rattle.octets.proofs.Stores.{sets-append}
-use Rattle.text.specs.Text.{text, newline, decimal, numbered, refused_with, Put}
-use Rattle.text.proofs.Laws.{put_length, length-decimal, length-numbered, length_refused}
+use Rattle.text.specs.declared.Output.{Output}
+use Rattle.text.specs.Output.{HasRoom, Adds}
+use Rattle.text.specs.Text.{text, newline, decimal, numbered, refused_with}
+use Rattle.text.proofs.Adds.{adds_both, adds_same, adds_none, room_behind}
+use Rattle.text.proofs.Laws.{length-decimal, length-numbered, length_refused}
 use Rattle.hex_text.specs.Hex.{hex}
 use Rattle.hex_text.proofs.Written.{length-hex}
 use Rattle.sections.specs.declared.Refusal.{Refusal}
@@ -30,27 +32,28 @@ use Rattle.guides.specs.declared.Answer.{Answer}
 use Rattle.guides.specs.declared.Answer.TheVariants.{NotOurs, NotYet, Noted, Repeat}
 use Rattle.guide_lines.specs.Lines.{escaped, escaped_name, name_text, name_line, name_lines, refusal_line, answer_line, NamesHad, section_lines, longest_lines}
 
--- ---- what is left, put here, makes the whole
+-- ---- of the whole, this is left to put
 
-pub record Left (whole l : List ℕ) (to : ℕ) (rest m : List ℕ) (at : ℕ) : Type 0 where
-  pub ends : at + length rest ≡ to + length whole
-  pub long : length m ≡ length l
-  pub puts : sets m at rest ≡ sets l to whole
+pub record Left (whole : List ℕ) (o : Output) (rest : List ℕ) (p : Output) : Type 0 where
+  pub put : List ℕ
+  pub parts : whole ≡ put ++ rest
+  pub adds : Adds put o p
 
-module _ {whole l : List ℕ} {to : ℕ} where
-  pub left_all : Left whole l to whole l to
-  left_all = record { ends = refl; long = refl; puts = refl }
+module _ {whole : List ℕ} {o : Output} where
+  pub left_all : Left whole o whole o
+  left_all = record { put = []; parts = refl; adds = adds_none o }
 
-  pub left_more : (vs ws : List ℕ) {rest m n : List ℕ} {at end : ℕ} → rest ≡ vs ++ ws → Left whole l to rest m at → Put vs m at n end → Left whole l to ws n end
-  left_more vs ws {rest} {m} {n} {at} {end} e h p =
-      record {
-        ends = omega (arith, h.ends, p.0, ap length e, length-append vs ws);
-        long = put_length vs m at p ∙ h.long;
-        puts = ap₂ (λ (o : List ℕ) (k : ℕ). sets o k ws) p.1 p.0 ∙ sym (sets-append vs ws m at) ∙ ap (sets m at) (sym e) ∙ h.puts;
-      }
+  pub left_more : {vs ws rest : List ℕ} {p q : Output} → rest ≡ vs ++ ws → Left whole o rest p → Adds vs p q → Left whole o ws q
+  left_more {vs = vs} {ws = ws} e h a =
+      record { put = h.put ++ vs; parts = h.parts ∙ ap (λ (rest : List ℕ). h.put ++ rest) e ∙ sym (append_assoc h.put vs ws); adds = adds_both h.adds a }
 
-  pub left_none : {rest m : List ℕ} {at : ℕ} → rest ≡ [] → Left whole l to rest m at → Put whole l to m at
-  left_none {rest} {m} {at} e h = (omega (arith, h.ends, ap length e), ap (sets m at) (sym e) ∙ h.puts)
+  pub left_none : {rest : List ℕ} {p : Output} → rest ≡ [] → Left whole o rest p → Adds whole o p
+  left_none e h = adds_same (sym (h.parts ∙ ap (λ (rest : List ℕ). h.put ++ rest) e ∙ append-nil h.put)) h.adds
+
+  -- there is room for what comes next
+  pub left_room : (vs ws : List ℕ) {rest : List ℕ} {p : Output} → rest ≡ vs ++ ws → Left whole o rest p → HasRoom (length whole) o → HasRoom (length vs) p
+  left_room vs ws {rest = rest} e h room =
+      omega (arith, room_behind rest h.adds (subst (λ (all : List ℕ). HasRoom (length all) o) h.parts room), ap length e, length-append vs ws)
 
 -- ---- a byte of a name
 
@@ -196,5 +199,3 @@ lines_fit (Ok (Repeat missing)) xs had small byte = omega (arith, length-append 
 -- ---- what the functions' goals are closed by
 
 pub ruleset of_names = (name-inside, head_there)
-
-pub ruleset of_lines = (length-line)

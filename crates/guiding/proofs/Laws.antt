@@ -1,26 +1,16 @@
 -- Laws of the program `guide`, record by record: every section's lines fit, and what a record leaves. Assumes nothing.
-use mathlib.Core.Path.{◌≡◌, refl, sym, subst, ◌∙◌}
+use mathlib.Core.Path.{◌≡◌, refl}
 use mathlib.Core.Bool.{Bool, true, false, not}
 use mathlib.Core.List.{List}
-use Prim.Native.Nat.{ℕ, ◌+◌, ◌-◌, ◌≤◌, ◌<◌}
-use native.Mathlib.Nat.{add-zero, sub-zero}
+use Prim.Native.Nat.{ℕ, ◌≤◌}
 use native.Mathlib.Omega.{arith}
 use borrow.Author.Tests.{not-false}
 use lib.Dec.{ltb, eqb}
-use lib.ListN.{length, get_or, drop, length-append}
+use lib.ListN.{length, get_or}
 use Rattle.std.specs.Prelude.{Result, Ok, Err}
 use Rattle.octets.specs.Bits.{Bytes}
 use Rattle.octets.specs.Checks.{check}
-use Rattle.octets.proofs.Laws.{either, bytes_take, bytes_drop, get_d_byte}
-use Rattle.records.specs.declared.Form.TheVariants.{Counted}
-use Rattle.records.specs.declared.Entry.{Entry}
-use Rattle.records.specs.declared.Entry.TheVariants.{Whole}
-use Rattle.records.specs.Records.{mark_bytes, length_bytes, mark_of, entry_in, is_whole, size_of, Record, record_in, body_in}
-use Rattle.records.specs.Transcripts.{Filled, still, text_in, filled, Turned}
-use Rattle.records.proofs.Entries.{Within}
-use Rattle.records.proofs.Counted.{whole_marked, counted_there}
-use Rattle.records.proofs.Transcripts.{none_size, filled_cases, cost-text}
-use Rattle.records.proofs.Filling.{Goes, goes_start, goes_end, full_stops, turned-inside, turned_less, turned-length, turned_left, turned_goes, turned_stops}
+use Rattle.octets.proofs.Laws.{either, get_d_byte}
 use Rattle.sections.specs.declared.Refusal.{Refusal}
 use Rattle.sections.specs.declared.Refusal.TheVariants.{BadLength, OtherProtocol, NumberAboveLast, RunsOver}
 use Rattle.sections.specs.declared.Standing.{Standing}

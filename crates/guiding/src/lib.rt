@@ -12,6 +12,7 @@ use guide_lines::LONGEST_LINES;
 use guides::Gathering;
 use programs::{Program, Put};
 use records::{Entry, Form, LENGTH_BYTES};
+use text::Output;
 
 // The program, in the state that the records so far left.
 #[derive(Clone, Copy)]
@@ -65,17 +66,15 @@ impl Program for Guide {
         let section = &content[LENGTH_BYTES..];
         let t = self.gathering.take(section);
         self.gathering = t.gathering;
-        Put {
-            wrote: guide_lines::put_section(t.answer, section, out, to),
-            told,
-        }
+        let mut output = Output { bytes: out, at: to };
+        guide_lines::put_section(t.answer, section, &mut output);
+        let wrote = output.at;
+        Put { wrote, told }
     }
 
     fn put_last(&mut self, entry: Entry, out: &mut [u8], _report: &mut [u8]) -> Put {
-        Put {
-            wrote: records::put_last(entry, out),
-            told: 0,
-        }
+        let wrote = records::put_last(entry, out);
+        Put { wrote, told: 0 }
     }
 
     ghost longest_is = { refl };

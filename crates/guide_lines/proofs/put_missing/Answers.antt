@@ -1,12 +1,11 @@
 -- `guide_lines::put_missing` meets its contract: the words, and the number behind them. Assumes nothing.
 use native.Mathlib.Omega.{arith}
-use Rattle.text.specs.Text.{numbered}
-use Rattle.text.proofs.Laws.{put_both, length-numbered}
+use Rattle.text.proofs.Laws.{length-numbered}
+use Rattle.text.proofs.Adds.{adds_both, room_left}
 use Rattle.guide_lines.proofs.put_missing.Goals as goal
 
-pub put_numbered-requires : goal.put_numbered-requires
-put_numbered-requires c = omega (arith, length-numbered 4 c.args.missing (omega arith), c.put_text-at.ensures.0)
+pub numbered-requires : goal.numbered-requires
+numbered-requires c = room_left c.put.ensures _ _ (omega (arith, length-numbered 4 c.args.missing (omega arith), c.requires.0)) c.requires.1
 
 pub returns : goal.returns
-returns c = let a = c.args in
-    put_both a.words.now (numbered a.missing) a.out.now a.to c.put_text-at.ensures c.put_numbered.ensures
+returns c = adds_both c.put.ensures c.numbered.ensures

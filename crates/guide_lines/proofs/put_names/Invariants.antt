@@ -8,4 +8,4 @@ use Rattle.guide_lines.proofs.put_names.Given as goal
 
 abbrev pub invariant-loop-n : goal.invariant-loop-n
 invariant-loop-n l = (l.place ≡ provider_place l.section l.n)
-    × Left (name_lines 0 (names_in l.section)) l.initial.out l.to (name_lines l.n (names_from l.section (get_or l.section 8 0 - l.n) l.place)) l.out l.at
+    × Left (name_lines 0 (names_in l.section)) l.initial.out (name_lines l.n (names_from l.section (get_or l.section 8 0 - l.n) l.place)) l.out

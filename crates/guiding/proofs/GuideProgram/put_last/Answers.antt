@@ -5,4 +5,4 @@ use Rattle.guiding.specs.Guiding.{guide_program}
 use Rattle.guiding.proofs.GuideProgram.put_last.Goals as goal
 
 pub returns : goal.returns
-returns c = puts_line guide_program refl (omega arith) c.put_last.ensures
+returns c = puts_line guide_program refl (omega arith) c.put_last-wrote.ensures

@@ -1,8 +1,8 @@
 -- A record of the program `guide`: the gathering takes the section, and its lines are put. Assumes nothing.
-use Rattle.std.proofs.Common.{arith, List, ℕ, Result, ◌≡◌, ◌-◌, sym, ap, subst, ◌∙◌, length, take, drop}
+use Rattle.std.proofs.Common.{arith, rules, List, ℕ, Result, ◌≡◌, ◌-◌, sym, ap, subst, ◌∙◌, length, take, drop}
 use Rattle.octets.specs.Bits.{Bytes}
 use Rattle.octets.proofs.Laws.{bytes_all, bytes_drop}
-use Rattle.text.proofs.Laws.{put_same}
+use Rattle.text.proofs.Adds.{adds_same}
 use Rattle.programs.proofs.Alone.{all_behind, takes_alone}
 use Rattle.sections.specs.declared.Refusal.{Refusal}
 use Rattle.guides.specs.declared.Answer.{Answer}
@@ -23,4 +23,5 @@ returns-clause-takes c =
     let all : section ≡ drop 2 a.content.now = all_behind 2 a.content.now in
     let lines : section_lines c.take-t.result.answer section ≡ lines_of g (drop 2 a.content.now) = ap (λ (b : Result Answer Refusal). section_lines b section) c.take-t.ensures.answers ∙ ap (lines_of g) all in
     let bytes : Bytes (drop 2 a.content.now) = bytes_drop 2 a.content.now (bytes_all a.content.now (λ i. omega (arith, c.type_inv.content i))) in
-    takes_alone guide_program (c.take-t.ensures.leaves ∙ ap (next_gathering g) all) (put_same a.out.now a.to lines c.put_section.ensures) (guide_fits g (drop 2 a.content.now) bytes) c.requires.tellable.0
+    let puts = adds_same lines c.put_section.ensures in
+    takes_alone guide_program (c.take-t.ensures.leaves ∙ ap (next_gathering g) all) (puts.at, search rules) (guide_fits g (drop 2 a.content.now) bytes) c.requires.tellable.0
