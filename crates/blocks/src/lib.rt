@@ -46,10 +46,8 @@ fn move_down(block: &mut [u8], from: usize, end: usize) -> usize
     ensures block_after { take (end - from) block.new ≡ take (end - from) (drop from block.old) }
 {
     let count = end - from;
-    let mut i = 0;
-    while i < count {
+    for i in 0..count {
         block[i] = block[from + i];
-        i += 1;
     }
     count
 }

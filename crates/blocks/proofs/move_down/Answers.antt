@@ -9,7 +9,6 @@ loop-i-preserved c =
     let inside : c.args.from + l.i < length c.args.block.now = omega arith in
     let long : length l.block ≡ length c.args.block.now = omega arith in
     record {
-      ahead = omega arith;
       rest = moved_rest l.block c.args.block.now c.args.from l.i inside long l.invariant.rest;
       front = moved_front l.block c.args.block.now c.args.from l.i inside long l.invariant.rest l.invariant.front;
     }
