@@ -1,7 +1,6 @@
 // Wraps a file of packets for the tunnel: wrap [PAYLOAD SIZE] < FILE > OUTER PACKETS, the report on standard error.
 #![tactic(auto)]
 
-use manners::Watched;
 use std::process::ExitCode;
 use std::rt::Env;
 
@@ -22,20 +21,16 @@ fn size_given<R: Env>(rt: &R) -> Option<usize> {
 }
 
 fn main(rt: HostRuntime) -> ExitCode {
-    let mut aside = Watched::new(rt.stderr());
     if manners::has_word(&rt, 2) {
         return ExitCode::from(manners::refuse_words(
-            &mut aside,
+            &mut rt.stderr(),
             b"wrap: takes one word, the payload size from 64 to 1400: wrap 1400 < packets.ip > outer.op\n",
         ));
     }
     let Some(size) = size_given(&rt) else {
-        return ExitCode::from(manners::refuse(&mut aside, b"wrap", BAD_SIZE));
+        return ExitCode::from(manners::refuse(&mut rt.stderr(), b"wrap", BAD_SIZE));
     };
-    let mut from = Watched::new(rt.stdin());
-    let mut to = Watched::new(rt.stdout());
-    let mut block = [0u8; 131072];
-    let ending = wrap_stream::copy(size, &mut from, &mut to, &mut aside, &mut block);
-    let error = from.error.or(to.error).or(aside.error);
-    ExitCode::from(manners::finish(&mut aside, b"wrap", ending, error))
+    ExitCode::from(manners::run(&rt, b"wrap", |from, to, aside| {
+        wrap_stream::copy(size, from, to, aside, &mut [0; 131072])
+    }))
 }

@@ -6,76 +6,49 @@ use std::io;
 use std::io::Write;
 use std::rt::{Env, Files};
 
-// Says what follows, and opens the file; where that fails, it says so on standard error.
-fn open<R: Files + Eprint, W: Write>(
-    rt: &R,
-    to: &mut W,
-    name: &str,
-    word: &[u8],
-    blocks: u64,
-    what: &[u8],
-) -> samples::Stored<R::File> {
-    samples::say(to, b"size ");
-    samples::say(to, word);
-    samples::say(to, b", ");
-    samples::open(rt, to, name, blocks, what)
+// Through a block of one of the longest records, and through a large one.
+fn run<R: Files + Eprint, W: Write>(rt: &R, to: &mut W, name: &str, word: &str) {
+    // where the word is no size, one that payloads may not have
+    let size = wrapping::size_of(word.as_bytes()).unwrap_or(0);
+    samples::print_both(
+        rt,
+        to,
+        Some(word),
+        name,
+        1504,
+        |file, to| wrap_stream::copy_slowly(size, file, to, &mut io::sink(), &mut [0; 1504]),
+        |file, to| wrap_stream::copy_slowly(size, file, &mut io::sink(), to, &mut [0; 1504]),
+    );
+    samples::print_both(
+        rt,
+        to,
+        Some(word),
+        name,
+        131072,
+        |file, to| wrap_stream::copy(size, file, to, &mut io::sink(), &mut [0; 131072]),
+        |file, to| wrap_stream::copy(size, file, &mut io::sink(), to, &mut [0; 131072]),
+    );
 }
 
-// The size that a word says, else one that payloads may not have.
-fn size_of(word: &[u8]) -> usize {
-    wrapping::size_of(word).unwrap_or(0)
-}
-
-// Through a block of one of the longest records; what is not printed goes nowhere.
-fn run_slowly<R: Files + Eprint, W: Write>(rt: &R, to: &mut W, name: &str, word: &[u8]) {
-    let mut block = [0u8; 1504];
-    let size = size_of(word);
-    let mut packets = open(rt, to, name, word, 1504, b": packets\n");
-    wrap_stream::copy_slowly(size, &mut packets, to, &mut io::sink(), &mut block);
-    samples::say(to, b"\n");
-    let mut report = open(rt, to, name, word, 1504, b": report\n");
-    let ending = wrap_stream::copy_slowly(size, &mut report, &mut io::sink(), to, &mut block);
-    samples::end(to, ending);
-}
-
-// Through a large one.
-fn run<R: Files + Eprint, W: Write>(rt: &R, to: &mut W, name: &str, word: &[u8]) {
-    let mut block = [0u8; 131072];
-    let size = size_of(word);
-    let mut packets = open(rt, to, name, word, 131072, b": packets\n");
-    wrap_stream::copy(size, &mut packets, to, &mut io::sink(), &mut block);
-    samples::say(to, b"\n");
-    let mut report = open(rt, to, name, word, 131072, b": report\n");
-    let ending = wrap_stream::copy(size, &mut report, &mut io::sink(), to, &mut block);
-    samples::end(to, ending);
-}
-
-// The file that one argument names, with the size that another says; false where there is none.
+// The file that one argument names, with the size that another says; none where there is none.
 fn run_named<R: Env + Files + Eprint, W: Write>(
     rt: &R,
     to: &mut W,
     size: usize,
     file: usize,
-) -> bool {
+) -> Option<()> {
     let mut of_size = [0u8; 4096];
     let mut of_file = [0u8; 4096];
-    match (
-        samples::named(rt, size, &mut of_size),
-        samples::named(rt, file, &mut of_file),
-    ) {
-        (Some(word), Some(name)) => {
-            run_slowly(rt, to, name, word.as_bytes());
-            run(rt, to, name, word.as_bytes());
-            true
-        }
-        _ => false,
-    }
+    let word = samples::named(rt, size, &mut of_size)?;
+    let name = samples::named(rt, file, &mut of_file)?;
+    run(rt, to, name, word);
+    Some(())
 }
 
 fn main(rt: HostRuntime) {
     let mut to = rt.stdout();
     for pair in 0..128 {
-        if !run_named(&rt, &mut to, 2 * pair + 1, 2 * pair + 2) {
+        if run_named(&rt, &mut to, 2 * pair + 1, 2 * pair + 2).is_none() {
             break;
         }
     }
