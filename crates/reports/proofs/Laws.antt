@@ -7,8 +7,8 @@ use native.Mathlib.Omega.{arith}
 use borrow.Author.Tests.{eq-eqb, ne_eqb}
 use lib.Dec.{eqb}
 use lib.ListN.{length, length-append}
-use Rattle.text.specs.Text.{text, newline, decimal, numbered, Put}
-use Rattle.text.proofs.Laws.{put_both, length_wide}
+use Rattle.text.specs.Text.{text, newline, decimal, numbered}
+use Rattle.text.proofs.Laws.{length_wide}
 use Rattle.reports.specs.Reports.{counted, said, report_line, held_line, longest_report}
 
 -- a number behind a word, where it is not 0
@@ -127,18 +127,3 @@ held_none n e = rw (eq-eqb n 0 e)
 pub held_some : (n : ℕ) → (n ≡ 0 → ⊥) → text "held " ++ numbered n ≡ held_line n
 unfolding held_line
 held_some n h = rw (ne_eqb n 0 h)
-
--- ---- what is put
-
-pub put_none : (l : List ℕ) (to : ℕ) → Put [] l to l to
-put_none l to = (omega arith, refl)
-
--- four, one behind the other
-pub put_four : (us vs ws xs l : List ℕ) (to : ℕ) {k m n o : List ℕ} {a b c d : ℕ} → Put us l to k a → Put vs k a m b → Put ws m b n c → Put xs n c o d → Put (us ++ (vs ++ (ws ++ xs))) l to o d
-put_four us vs ws xs l to {k = k} {m = m} {a = a} {b = b} p q r s =
-    put_both us (vs ++ (ws ++ xs)) l to p (put_both vs (ws ++ xs) k a q (put_both ws xs m b r s))
-
-pub put_words : (number : ℕ) (repeat : Bool) (gap lost : ℕ) (l : List ℕ) (to : ℕ) {k m n o : List ℕ} {a b c d : ℕ} → Put (counted " " number) l to k a → Put (repeated repeat) k a m b → Put (counted " gap " gap) m b n c → Put (counted " lost " lost) n c o d → Put (said number repeat gap lost) l to o d
-unfolding said
-put_words number repeat gap lost l to p q r s =
-    put_four (counted " " number) (repeated repeat) (counted " gap " gap) (counted " lost " lost) l to p q r s

@@ -3,6 +3,7 @@
 use Rattle.std.specs.Prelude.{ℕ, ◌+◌, ◌%◌, ◌^◌, Bool, cond, List, [], ◌++◌, eqb, length}
 use Prim.Native.String.{String}
 use Rattle.text.specs.Text.{text, newline, decimal, numbered}
+use Rattle.reports.specs.declared.Said.{Said}
 
 -- the number of the next record, in 64 bits
 abbrev pub following : ℕ → ℕ
@@ -15,6 +16,9 @@ counted word n = cond (eqb n 0) [] (text word ++ decimal n)
 -- the refusal's number; a repeat; outer packets left out; bytes thrown away
 unfoldable pub said : ℕ → Bool → ℕ → ℕ → List ℕ
 said number repeat gap lost = counted " " number ++ (cond repeat (text " repeat") [] ++ (counted " gap " gap ++ counted " lost " lost))
+
+abbrev pub said_of : Said → List ℕ
+said_of s = said s.number s.repeat s.gap s.lost
 
 -- the line of the n-th record, if there is something to say
 unfoldable pub report_line : List ℕ → ℕ → List ℕ → List ℕ

@@ -6,7 +6,7 @@ use native.Mathlib.Nat.{zero-add}
 use native.Mathlib.Omega.{arith}
 use borrow.Rule.Slice.PartMut.{put_mid}
 use lib.ListN.{length, take, drop, length-append, length-drop}
-use lib.Seq.{length-take-le, length-sets}
+use lib.Seq.{length-take-le}
 use Rattle.text.specs.Text.{Put}
 use Rattle.text.proofs.Laws.{put_both, put_length}
 use Rattle.records.specs.declared.Entry.{Entry}
@@ -42,11 +42,11 @@ module _ (held : ℕ) (small : held < 2 ^ 64) (report first : List ℕ) (line : 
     pub end_inside : line + n ≤ length report
     end_inside = omega (arith, both.0, fits)
 
-    pub puts_last : (s : State) → held ≡ length (part_of s.reader) → (out : List ℕ) → PutsLast unwrap_channels s e out report out 0 (put_mid line (length first - line) first rest) (line + n)
-    puts_last s is out =
+    pub puts_last : (s : State) → held ≡ length (part_of s.reader) → (out : List ℕ) {report' : List ℕ} → report' ≡ put_mid line (length first - line) first rest → PutsLast unwrap_channels s e out report out 0 report' (line + n)
+    puts_last s is out {report' = report'} after =
         record {
           stores = (refl, refl);
-          tells = subst (λ (k : ℕ). Put (held_line k ++ last_line e) report 0 (put_mid line (length first - line) first rest) (line + n)) is both;
+          tells = subst (λ (k : ℕ). Put (held_line k ++ last_line e) report 0 report' (line + n)) is (both.0, after ∙ both.1);
           output-fits = omega arith;
           report-fits = subst (λ (k : ℕ). length (held_line k ++ last_line e) ≤ length report) is fits;
         }

@@ -1,5 +1,5 @@
 -- Laws of the program `unwrap`, record by record. Assumes nothing.
-use mathlib.Core.Path.{◌≡◌, refl, sym, ap, ap₂, subst, ◌∙◌}
+use mathlib.Core.Path.{◌≡◌, sym, ap, ap₂, subst, ◌∙◌}
 use mathlib.Core.List.{List, [], ◌++◌, append_assoc, append-nil}
 use Prim.Native.Nat.{ℕ, ◌+◌, ◌-◌, ◌≤◌}
 use native.Mathlib.Nat.{zero-add}
@@ -10,12 +10,10 @@ use lib.ListN.{length, take, drop, length-drop, length-replicate, drop_of_length
 use lib.Seq.{take_all, length-take-le, drop-drop, sets, sets-eq, length-sets}
 use Rattle.text.specs.Text.{text, Put}
 use Rattle.text.proofs.Laws.{put_same}
-use Rattle.records.specs.declared.Form.TheVariants.{Counted}
-use Rattle.records.specs.declared.Entry.TheVariants.{Whole}
-use Rattle.records.specs.Records.{mark_bytes, length_bytes, mark_of, entry_in, record_in, body_in}
-use Rattle.records.specs.Channels.{Turns}
-use Rattle.records.proofs.Counted.{whole_marked, counted_there}
-use Rattle.records.proofs.Channels.{Room, turns_whole}
+use Rattle.records.specs.Records.{body_in}
+use Rattle.records.proofs.Channels.{Room}
+use Rattle.programs.specs.Programs.{Takes}
+use Rattle.programs.proofs.Filling.{takes_both}
 use Rattle.reports.specs.Reports.{following, said, report_line, longest_report}
 use Rattle.reports.proofs.Laws.{length-report}
 use Rattle.tunnel.specs.declared.Numbers.{Numbers}
@@ -25,7 +23,7 @@ use Rattle.tunnel.specs.declared.Unwrapped.TheVariants.{Stored, Repeat}
 use Rattle.tunnel.specs.declared.Refusal.TheVariants.{ShortOutput, Foreign, BadOffset}
 use Rattle.tunnel.specs.Unwrap.{shortest_output, most_stored, Answer, Reader, reader, unwrapped_values, unwrapped, UnwrapSays}
 use Rattle.tunnel.proofs.Results.{Alike, alike, most_stored_lem, most_left_out, most_lost}
-use Rattle.unwrapping.specs.Unwrapping.{outer_form, State, state, long_output, call, packets_text, sayings, report_text, unwrap_channels, FedTo}
+use Rattle.unwrapping.specs.Unwrapping.{State, state, long_output, call, packets_text, sayings, report_text, unwrap_channels, FedTo}
 
 -- ---- a call on zeros, and on the rest of an output
 
@@ -111,3 +109,12 @@ report-short s outer =
 
 pub unwrap_room : Room unwrap_channels
 unwrap_room s r = omega (arith, packets-short s (body_in r), report-short s (body_in r))
+
+-- ---- a record: an outer packet, given to the reader
+
+module _ (m : Numbers) (part content out : List ℕ) (to : ℕ) (room : to + shortest_output ≤ length out) (count mark : ℕ) where
+  pub packet_takes : (outer : List ℕ) → outer ≡ drop 2 content → (a : Answer) (m' : Numbers) (part' rest' : List ℕ) → UnwrapSays m part outer (take (length out - to) (drop to out)) a m' part' rest' → (v : Values) → v ≡ unwrapped_values a → (n : ℕ) → n ≡ following count → (report : List ℕ) (told : ℕ) → told + shortest_output ≤ length report → {report' : List ℕ} {line : ℕ} → Put (report_line (text "OP") n (said v.number v.repeat v.gap v.lost)) report told report' line → Takes unwrap_channels (state m part count) (record { mark = mark; content = content }) out to report told (state m' part' n) (put_mid to (length out - to) out rest') (to + v.stored) report' line
+  packet_takes outer behind a m' part' rest' says v is n next report told tellable {report' = report'} {line = line} put =
+      let fed = feed_says m part outer out to room count a m' part' rest' says v is n next report report' told line put in
+      let f = subst (λ (o : List ℕ). FedTo (state m part count) o out to report told (state m' part' n) (put_mid to (length out - to) out rest') (to + v.stored) report' line) behind fed in
+      takes_both unwrap_channels f.left f.stores f.tells (unwrap_room (state m part count) (record { mark = mark; content = content })) tellable

@@ -8,6 +8,8 @@ ghost use Rattle.unwrapping.specs.Unwrapping.{outer_form, longest_record, State,
 
 use programs::{Program, Put};
 use records::{Entry, Form, LENGTH_BYTES};
+use reports::Said;
+use text::Output;
 use tunnel::{Numbers, SHORTEST_OUTPUT};
 
 // The program, in the state that the records so far left: the reader's numbers, the memory of its part, and how many records were read.
@@ -71,19 +73,34 @@ impl Program for Unwrap {
         self.numbers = fed.numbers;
         let v = tunnel::values_of(fed.answer);
         let n = reports::next_count(self.count);
-        let line = reports::put_report(b"OP", n, v.number, v.repeat, v.gap, v.lost, report, told);
+        let said = Said {
+            number: v.number,
+            repeat: v.repeat,
+            gap: v.gap,
+            lost: v.lost,
+        };
+        let mut line = Output {
+            bytes: report,
+            at: told,
+        };
+        reports::put_report(b"OP", n, said, &mut line);
         self.count = n;
         Put {
             wrote: to + v.stored,
-            told: line,
+            told: line.at,
         }
     }
 
     // The part that is held and the last line are told, and nothing comes last in the output.
     fn put_last(&mut self, entry: Entry, _out: &mut [u8], report: &mut [u8]) -> Put {
         let held = tunnel::held(self.numbers, &self.part);
-        let line = reports::put_held(held, report, 0);
-        let end = line + records::put_last(entry, &mut report[line..]);
+        let mut told = Output {
+            bytes: report,
+            at: 0,
+        };
+        reports::put_held(held, &mut told);
+        let line = told.at;
+        let end = line + records::put_last(entry, &mut told.bytes[line..]);
         Put {
             wrote: 0,
             told: end,

@@ -1,15 +1,15 @@
 -- Laws of the program `wrap`, record by record. Assumes nothing.
 use mathlib.Core.Path.{◌≡◌, refl, sym, ap, ap₂, subst, ◌∙◌}
-use mathlib.Core.Bool.{true, false, true≢false}
+use mathlib.Core.Bool.{true, false}
 use mathlib.Core.List.{List, flat_map}
 use Rattle.std.proofs.Common.{Result}
-use Prim.Native.Nat.{ℕ, ◌+◌, ◌*◌, ◌-◌, ◌/◌, ◌≤◌}
+use Prim.Native.Nat.{ℕ, ◌+◌, ◌*◌, ◌/◌, ◌≤◌}
 use native.Mathlib.Nat.{add-zero, mul-le-mul_left, div-mul-le_self}
 use native.Mathlib.Omega.{arith}
-use borrow.Author.Tests.{eqb-true, eqb-false, eq-eqb, ne_eqb}
+use borrow.Author.Tests.{eqb-false, eq-eqb, ne_eqb}
 use lib.Dec.{eqb, lit≤}
-use lib.ListN.{length, take, drop, length-take, length-drop}
-use lib.Seq.{get_or-take, drop-drop}
+use lib.ListN.{length, take, drop, length-take}
+use lib.Seq.{get_or-take}
 use Rattle.octets.proofs.Laws.{either}
 use Rattle.octets.specs.Each.{Each}
 use Rattle.text.specs.Text.{text, Put}
@@ -21,13 +21,8 @@ use Rattle.records.specs.declared.Form.{Form}
 use Rattle.records.specs.declared.Form.TheVariants.{Foreign, Counted}
 use Rattle.programs.specs.Programs.{Holds, Takes}
 use Rattle.programs.proofs.Filling.{takes_both}
-use Rattle.records.specs.declared.Entry.TheVariants.{Whole}
-use Rattle.records.specs.Records.{mark_bytes, length_bytes, mark_in, mark_of, entry_in, size_of, Record, record_in, body_in}
-use Rattle.records.specs.Channels.{output_of, Turns}
-use Rattle.records.proofs.Entries.{size-inside}
-use Rattle.records.proofs.Counted.{whole_told, whole_counted}
-use Rattle.records.proofs.Channels.{Room, turns_whole}
-use Rattle.records.proofs.Filling.{turned_keeps}
+use Rattle.records.specs.Records.{length_bytes, mark_of, Record, body_in}
+use Rattle.records.proofs.Channels.{Room}
 use Rattle.reports.specs.Reports.{following, said, report_line, longest_report}
 use Rattle.reports.proofs.Laws.{length-report}
 use Rattle.wrapper.specs.declared.Numbers.{Numbers}

@@ -15,8 +15,10 @@ ghost use Rattle.wrapping.specs.Seen.{seen};
 use packets::{LONGEST_PACKET, SHORTEST_PACKET};
 use programs::{Program, Put};
 use records::{Entry, Form, LENGTH_BYTES};
+use reports::Said;
 use rtp::HEADER_BYTES;
 use store::PACKET_MARK;
+use text::Output;
 use wrapper::Numbers;
 
 // Room for what one call writes, and for both texts of any record.
@@ -150,8 +152,21 @@ impl Wrap {
         let wrote = put_outers(v.wrote / each, each, &self.outers, out, to);
         let n = reports::next_count(self.count);
         self.count = n;
-        let line = reports::put_report(b"IP", n, v.number, false, 0, 0, report, told);
-        Put { wrote, told: line }
+        let said = Said {
+            number: v.number,
+            repeat: false,
+            gap: 0,
+            lost: 0,
+        };
+        let mut line = Output {
+            bytes: report,
+            at: told,
+        };
+        reports::put_report(b"IP", n, said, &mut line);
+        Put {
+            wrote,
+            told: line.at,
+        }
     }
 
     // Closes: the outer packet of what is left, if anything is, is put to the start of the output as a record.

@@ -1,20 +1,18 @@
 -- `reports::put_held` meets its contract: nothing, or the word and the number behind it. Assumes nothing.
 use native.Mathlib.Omega.{arith}
 use lib.ListN.{length-append}
-use Rattle.text.specs.Text.{text, newline, decimal, numbered}
-use Rattle.text.proofs.Laws.{put_same, put_both, length_wide}
-use Rattle.reports.proofs.Laws.{held_none, held_some, put_none}
+use Rattle.text.specs.Text.{newline, decimal}
+use Rattle.text.proofs.Laws.{length_wide}
+use Rattle.text.proofs.Adds.{adds_both, adds_same, adds_none, room_left}
+use Rattle.reports.proofs.Laws.{held_none, held_some}
 use Rattle.reports.proofs.put_held.Goals as goal
 
 pub returns-then-n-eq0 : goal.returns-then-n-eq0
-returns-then-n-eq0 c = let a = c.args in
-    put_same a.out.now a.to (held_none a.n c.if-n-eq0.true) (put_none a.out.now a.to)
+returns-then-n-eq0 c = let a = c.args in adds_same (held_none a.n c.if-n-eq0.true) (adds_none a.out.now)
 
-pub put_numbered-requires : goal.put_numbered-requires
-put_numbered-requires c = let a = c.args in
-    omega (arith, length-append (decimal a.n) newline, length_wide a.n (omega arith), c.put_text-end.ensures.0)
+pub numbered-requires : goal.numbered-requires
+numbered-requires c = let a = c.args in
+    room_left c.put.ensures _ _ (omega (arith, length-append (decimal a.n) newline, length_wide a.n (omega arith))) c.requires
 
 pub returns : goal.returns
-returns c = let a = c.args in
-    let both = put_both (text "held ") (numbered a.n) a.out.now a.to c.put_text-end.ensures c.put_numbered.ensures in
-    put_same a.out.now a.to (held_some a.n c.if-n-eq0.false) both
+returns c = adds_same (held_some c.args.n c.if-n-eq0.false) (adds_both c.put.ensures c.numbered.ensures)

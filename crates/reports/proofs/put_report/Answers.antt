@@ -1,34 +1,49 @@
 -- `reports::put_report` meets its contract: nothing, or the mark, a space, the number, the words and the end of the line. Assumes nothing.
 use mathlib.Core.Path.{sym, ◌∙◌}
-use mathlib.Core.List.{◌++◌}
+use mathlib.Core.List.{List}
+use Prim.Native.Nat.{ℕ, ◌≤◌}
 use native.Mathlib.Omega.{arith}
-use Rattle.text.specs.Text.{text, newline, decimal}
-use Rattle.text.proofs.Laws.{put_same, put_both, length_wide}
-use Rattle.reports.specs.Reports.{said}
-use Rattle.reports.proofs.Laws.{length-said, report_none, report_some, put_none, put_four}
+use lib.ListN.{length, length-append}
+use Rattle.text.specs.declared.Output.{Output}
+use Rattle.text.specs.Output.{HasRoom, Adds}
+use Rattle.text.specs.Text.{text, decimal}
+use Rattle.text.proofs.Laws.{length_wide}
+use Rattle.text.proofs.Adds.{adds_both, adds_same, adds_none, room_left}
+use Rattle.reports.specs.Reports.{said_of, longest_report}
+use Rattle.reports.proofs.Laws.{length-said, report_none, report_some}
 use Rattle.reports.proofs.put_report.Goals as goal
+
+-- the room behind the mark and the space
+rest_room : {mark : List ℕ} {o p q : Output} → Adds mark o p → Adds (text " ") p q → length mark ≤ 2 → HasRoom longest_report o → HasRoom 125 q
+rest_room a b few room = room_left b 126 125 (omega arith) (room_left a _ 126 (omega (arith, few)) room)
 
 pub returns-then-is_silent : goal.returns-then-is_silent
 returns-then-is_silent c = let a = c.args in
-    let words = said a.number a.repeat a.gap a.lost in
-    put_same a.out.now a.to (report_none a.mark.now a.n words (sym c.is_silent.ensures ∙ c.if-is_silent.true)) (put_none a.out.now a.to)
+    adds_same (report_none a.mark.now a.n (said_of a.said) (sym c.is_silent.ensures ∙ c.if-is_silent.true)) (adds_none a.out.now)
 
-pub put_number-words-requires : goal.put_number-words-requires
-put_number-words-requires c = let a = c.args in
-    omega (arith, length_wide a.n (omega arith), c.put_text-at.ensures.0, c.put_text-space.ensures.0)
+pub put-requires-2 : goal.put-requires-2
+put-requires-2 c = room_left c.put.ensures _ 1 (omega (arith, c.requires.0)) c.requires.1
 
-pub put_said-end-requires : goal.put_said-end-requires
-put_said-end-requires c = let a = c.args in
-    omega (arith, length_wide a.n (omega arith), c.put_text-at.ensures.0, c.put_text-space.ensures.0, c.put_number-words.ensures.0)
+pub number-requires : goal.number-requires
+number-requires c = omega (arith, length_wide c.args.n (omega arith), rest_room c.put.ensures c.put-2.ensures c.requires.0 c.requires.1)
 
-pub put_text-requires : goal.put_text-requires
-put_text-requires c = let a = c.args in
-    omega (arith, length_wide a.n (omega arith), length-said a.number a.repeat a.gap a.lost (omega arith) (omega arith) (omega arith), c.put_text-at.ensures.0, c.put_text-space.ensures.0, c.put_number-words.ensures.0, c.put_said-end.ensures.0)
+pub put-requires-3 : goal.put-requires-3
+put-requires-3 c =
+    room_left c.number.ensures _ 79 (omega (arith, length_wide c.args.n (omega arith))) (rest_room c.put.ensures c.put-2.ensures c.requires.0 c.requires.1)
+
+pub put-requires-4 : goal.put-requires-4
+put-requires-4 c = let s = c.args.said in
+    room_left (adds_both c.number.ensures c.put-3.ensures) _ 1
+    (
+    omega (
+      arith,
+      length-append (decimal c.args.n) (said_of s),
+      length_wide c.args.n (omega arith),
+      length-said s.number s.repeat s.gap s.lost (omega arith) (omega arith) (omega arith),
+    )
+    )
+    (rest_room c.put.ensures c.put-2.ensures c.requires.0 c.requires.1)
 
 pub returns : goal.returns
 returns c = let a = c.args in
-    let mark = a.mark.now in
-    let words = said a.number a.repeat a.gap a.lost in
-    let first = c.put_text-at in
-    let rest = put_four (text " ") (decimal a.n) words newline first.new.out first.result c.put_text-space.ensures c.put_number-words.ensures c.put_said-end.ensures c.put_text.ensures in
-    put_same a.out.now a.to (report_some mark a.n words (sym c.is_silent.ensures ∙ c.if-is_silent.false)) (put_both mark (text " " ++ (decimal a.n ++ (words ++ newline))) a.out.now a.to first.ensures rest)
+    adds_same (report_some a.mark.now a.n (said_of a.said) (sym c.is_silent.ensures ∙ c.if-is_silent.false)) (adds_both c.put.ensures (adds_both c.put-2.ensures (adds_both c.number.ensures (adds_both c.put-3.ensures c.put-4.ensures))))

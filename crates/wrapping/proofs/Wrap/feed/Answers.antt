@@ -1,5 +1,5 @@
 -- `wrapping::Wrap::feed` meets its contract: the writer's outer packets, put as records, and its answer, told. Assumes nothing.
-use Rattle.std.proofs.Common.{arith, ◌≤◌, length}
+use Rattle.std.proofs.Common.{arith, rules, ◌≤◌, length}
 use Rattle.wrapping.specs.Wrapping.{longest_output}
 use Rattle.wrapping.proofs.Laws.{feed_room, feed_says}
 use Rattle.wrapping.proofs.Wrap.feed.Goals as goal
@@ -14,4 +14,4 @@ pub returns : goal.returns
 returns c =
     let a = c.args.self.now in
     let long : longest_output ≤ length a.outers = omega arith in
-    feed_says a.numbers a.bytes a.outers c.requires.0 long c.args.packet.now a.stamp a.count _ _ _ _ c.wrap-given.ensures _ c.values_of-v.ensures c.args.out.now c.args.to _ _ c.put_outers-wrote.ensures _ c.next_count-n.ensures c.args.report.now c.args.told _ _ c.put_report-line.ensures
+    feed_says a.numbers a.bytes a.outers c.requires.0 long c.args.packet.now a.stamp a.count _ _ _ _ c.wrap-given.ensures _ c.values_of-v.ensures c.args.out.now c.args.to _ _ c.put_outers-wrote.ensures _ c.next_count-n.ensures c.args.report.now c.args.told _ _ (c.put_report.ensures.at, search rules)
