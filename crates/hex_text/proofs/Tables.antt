@@ -1,10 +1,10 @@
 -- The sixteen digits: a test that antt computes for each of them is a law. Assumes nothing.
 use mathlib.Core.Path.{◌≡◌, refl, ap, ◌∙◌}
-use mathlib.Core.Bool.{Bool, true, false, ◌&&◌, and-eq-true_iff}
-use Prim.Native.Nat.{ℕ, zero, suc, ◌<◌}
+use mathlib.Core.Bool.{Bool, true, false, cond, ◌&&◌, and-eq-true_iff}
+use Prim.Native.Nat.{ℕ, zero, suc, ◌+◌, ◌<◌}
 use native.Mathlib.Omega.{arith}
 use borrow.Author.Tests.{eqb-true, eqb-false}
-use lib.Dec.{eqb}
+use lib.Dec.{eqb, ltb}
 use Rattle.std.specs.Prelude.{Option, Some, None}
 use Rattle.octets.proofs.Laws.{either}
 use Rattle.hex_text.specs.Hex.{glyph, digit_of}
@@ -22,6 +22,10 @@ under_passes test (suc k) e n h =
     (λ t.
     let other = eqb-false n k t in
     under_passes test k both.1 n (omega arith))
+
+-- the digits and the letters stand in one run each: 87 is 10 places before a
+pub glyph_runs : (n : ℕ) → n < 16 → glyph n ≡ cond (ltb n 10) (48 + n) (87 + n)
+glyph_runs n h = eqb-true _ _ (under_passes (λ m. eqb (glyph m) (cond (ltb m 10) (48 + m) (87 + m))) 16 refl n h)
 
 -- whether it is this number
 abbrev tells : Option ℕ → ℕ → Bool

@@ -30,11 +30,12 @@ hex_typed (x ∷ xs) b =
 
 -- ---- byte by byte
 
-pub hex_next : (xs l : List ℕ) (to i : ℕ) → i < length xs → sets (set (set l (to + 2 * i) (glyph (get_or xs i 0 / 16))) (to + 2 * i + 1) (glyph (get_or xs i 0 % 16))) (to + 2 * (i + 1)) (hex (drop (i + 1) xs)) ≡ sets l (to + 2 * i) (hex (drop i xs))
+pub hex_next : (xs l : List ℕ) (to i hi lo : ℕ) → i < length xs → hi ≡ glyph (get_or xs i 0 / 16) → lo ≡ glyph (get_or xs i 0 % 16) → sets (set (set l (to + 2 * i) hi) (to + 2 * i + 1) lo) (to + 2 * (i + 1)) (hex (drop (i + 1) xs)) ≡ sets l (to + 2 * i) (hex (drop i xs))
 unfolding hex flat_map
-hex_next xs l to i h =
+hex_next xs l to i hi lo h p q =
     let next : to + 2 * (i + 1) ≡ suc (suc (to + 2 * i)) = omega arith in
     rw (next, add-one (to + 2 * i), add-one i, drop-cons xs i 0 h)
+    (λ j. sets (set (set l (to + 2 * i) (p j)) (suc (to + 2 * i)) (q j)) (suc (suc (to + 2 * i))) (hex (drop (suc i) xs)))
 
 pub hex_none : (xs l : List ℕ) (k i : ℕ) → length xs ≤ i → sets l k (hex (drop i xs)) ≡ l
 unfolding hex flat_map

@@ -1,19 +1,25 @@
 // Bytes in hex: put at a place of an output, and taken from a place of a text.
 #![tactic(auto)]
 
-ghost use Rattle.std.specs.Prelude.{◌≡◌, true, ◌+◌, ◌*◌, ◌≤◌, is_some, length, drop};
+ghost use Rattle.std.specs.Prelude.{◌≡◌, true, ◌+◌, ◌*◌, ◌≤◌, ◌<◌, is_some, length, drop};
 ghost use Rattle.std.specs.List.{list_all};
 ghost use Rattle.std.proofs.lemmas.List.Edits.{sets};
 ghost use Rattle.text.specs.Text.{Put};
 ghost use Rattle.text.specs.Output.{HasRoom, Adds};
-ghost use Rattle.hex_text.specs.Hex.{hex, digit_of, hex_fits, hex_said};
+ghost use Rattle.hex_text.specs.Hex.{glyph as Hex·glyph, hex, digit_of, hex_fits, hex_said};
 
 use text::Output;
 
 // ---- written
 
-// The sixteen digits.
-const DIGITS: [u8; 16] = *b"0123456789abcdef";
+// A digit. By arithmetic with no branch, which a processor does for many bytes at a time; it looks a table's places up one by one.
+fn glyph(n: u8) -> u8
+    requires { n < 16 }
+    ensures { result ≡ Hex·glyph n }
+{
+    let letter = 39 * (9 < n) as u8;
+    48 + n + letter
+}
 
 // Puts bytes in hex at a place of the output; the place after them.
 pub fn put_hex(bytes: &[u8], out: &mut [u8], to: usize) -> usize
@@ -22,8 +28,8 @@ pub fn put_hex(bytes: &[u8], out: &mut [u8], to: usize) -> usize
 {
     for (i, &byte) in bytes.iter().enumerate() {
         let at = to + 2 * i;
-        out[at] = DIGITS[(byte / 16) as usize];
-        out[at + 1] = DIGITS[(byte % 16) as usize];
+        out[at] = glyph(byte / 16);
+        out[at + 1] = glyph(byte % 16);
     }
     to + 2 * bytes.len()
 }

@@ -8,7 +8,7 @@ use Rattle.hex_text.proofs.put_hex.Goals as goal
 
 pub loop-i-preserved : goal.loop-i-preserved
 loop-i-preserved c = let l = c.loop-i in
-    (omega arith, simp length-set l.invariant.1, hex_next c.args.bytes.now l.out c.args.to l.i c.loop-i-test.true ∙ l.invariant.2)
+    (omega arith, simp length-set l.invariant.1, hex_next c.args.bytes.now l.out c.args.to l.i _ _ c.loop-i-test.true c.glyph.ensures c.glyph-in-loop-i.ensures ∙ l.invariant.2)
 
 pub returns : goal.returns
 returns c = let bytes = c.args.bytes.now in
