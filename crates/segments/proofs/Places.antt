@@ -4,13 +4,16 @@ use mathlib.Core.List.{List, [], ◌∷◌, ◌++◌}
 use Prim.Native.Nat.{ℕ, zero, suc, ◌+◌, ◌*◌, ◌≤◌, ◌<◌}
 use native.Mathlib.Nat.{zero-add, suc-add, mul-suc}
 use native.Mathlib.Omega.{arith}
-use lib.ListN.{length, take, drop, length-drop}
-use lib.Seq.{length-take-le, take-nil, take-add, take_all, take-append-le, drop-append-le}
+use lib.ListN.{length, get_or, take, drop, length-drop}
+use lib.Seq.{get_or-take, get_or-drop, length-take-le, take-nil, take-add, take_all, take-append-le, drop-append-le}
 use Rattle.segments.specs.Segment.{segment_bytes, segment_header_bytes, payload_bytes, place_of, payload_in}
 
 -- the 35 bytes from the place at on
 abbrev pub part : List ℕ → ℕ → List ℕ
 part xs at = take payload_bytes (drop at xs)
+
+pub get_d_part : (xs : List ℕ) (at i : ℕ) → i < payload_bytes → get_or (part xs at) i 0 ≡ get_or xs (at + i) 0
+get_d_part xs at i h = get_or-take payload_bytes (drop at xs) i 0 h ∙ get_or-drop at xs i 0
 
 pub length_part : (xs : List ℕ) (at : ℕ) → at + payload_bytes ≤ length xs → length (part xs at) ≡ payload_bytes
 length_part xs at room = length-take-le payload_bytes (drop at xs) (omega (arith, length-drop at xs))

@@ -10,6 +10,7 @@ ghost use Rattle.octets.specs.Same.{same as Same·same};
 ghost use Rattle.octets.specs.Sets.{holds as Sets·holds};
 ghost use Rattle.slots.specs.Slots.{no_bytes, missing_in, numbers_fit, bytes_fit, slot_fits, clashing};
 ghost use Rattle.slots.specs.Gathering.{side, outcome, gathered, completed};
+ghost use Rattle.slots.specs.Words.{eight};
 
 use meaning::{Kind, LONGEST_CHUNK, Refusal};
 use segments::{MOST_SEGMENTS, PAYLOAD_BYTES, SEGMENT_HEADER_BYTES};
@@ -65,12 +66,34 @@ fn missing(slot: Slot) -> u8
 
 // ---- the bytes of a place
 
-// Whether 35 bytes of a are those of b.
+// Eight bytes as one number.
+fn word_at(s: &[u8], at: usize) -> u64
+    requires { at + 8 ≤ length s.now }
+    ensures { result ≡ eight s.now at }
+{
+    u64::from_le_bytes([
+        s[at],
+        s[at + 1],
+        s[at + 2],
+        s[at + 3],
+        s[at + 4],
+        s[at + 5],
+        s[at + 6],
+        s[at + 7],
+    ])
+}
+
+// Whether 35 bytes of a are those of b: by words, the last two of which overlap.
+// Stays: (b) `==` of slices, `==` of arrays and `starts_with` were tried: a log of repeats took 1.3 times as long and more.
 fn same(a: &[u8], at: usize, b: &[u8], from: usize) -> bool
     requires { (at + payload_bytes ≤ length a.now) × (from + payload_bytes ≤ length b.now) }
     ensures { result ≡ Same·same (take payload_bytes (drop at a.now)) (take payload_bytes (drop from b.now)) }
 {
-    a[at..at + PAYLOAD_BYTES] == b[from..from + PAYLOAD_BYTES]
+    word_at(a, at) == word_at(b, from)
+        && word_at(a, at + 8) == word_at(b, from + 8)
+        && word_at(a, at + 16) == word_at(b, from + 16)
+        && word_at(a, at + 24) == word_at(b, from + 24)
+        && word_at(a, at + 27) == word_at(b, from + 27)
 }
 
 // Puts a segment's payload at a place.
