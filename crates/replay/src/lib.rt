@@ -119,7 +119,7 @@ impl Replay {
             &mut self.second,
         );
         let after = driven.notes;
-        self.desk.notes = after;
+        self.desk.notes = after.anew();
         let answer = driven.answer;
         match answer {
             Ok(Answer::NewList { kind, length }) => {

@@ -19,16 +19,21 @@ put_list-requires c =
 pub returns-in-Ok-NewList-clause-put : goal.returns-in-Ok-NewList-clause-put
 returns-in-Ok-NewList-clause-put c =
     let a = c.args.self.now in
-    adds_same (listed_same a.desk c.args.seg.now a.first a.second _ c.drive-driven.ensures _ _ (c.in-Ok-NewList.is ∙ ap (λ (x : Answer). Ok x) (rw c.in-Ok-NewList.is at c.in-Ok-NewList.field-0-is)) _ c.part-listing.ensures.result_value) c.put_list.ensures
+    rw c.anew-self.ensures (adds_same (listed_same a.desk c.args.seg.now a.first a.second _ c.drive-driven.ensures _ _ (c.in-Ok-NewList.is ∙ ap (λ (x : Answer). Ok x) (rw c.in-Ok-NewList.is at c.in-Ok-NewList.field-0-is)) _ c.part-listing.ensures.result_value) c.put_list.ensures)
 
 pub returns-in-Ok-Missing-clause-put : goal.returns-in-Ok-Missing-clause-put
 returns-in-Ok-Missing-clause-put c =
     let a = c.args.self.now in
     let is = answer_is a.desk c.args.seg.now a.first a.second _ c.drive-driven.ensures in
-    adds_same (missing_lines _ _ _ (sym is ∙ c.in-Ok-Missing.is ∙ ap (λ (x : Answer). Ok x) (rw c.in-Ok-Missing.is at c.in-Ok-Missing.field-0-is))) c.put_missing.ensures
+    rw c.anew-self.ensures (adds_same (missing_lines _ _ _ (sym is ∙ c.in-Ok-Missing.is ∙ ap (λ (x : Answer). Ok x) (rw c.in-Ok-Missing.is at c.in-Ok-Missing.field-0-is))) c.put_missing.ensures)
 
 pub returns-in-Err-clause-put : goal.returns-in-Err-clause-put
 returns-in-Err-clause-put c =
     let a = c.args.self.now in
     let is = answer_is a.desk c.args.seg.now a.first a.second _ c.drive-driven.ensures in
-    adds_same (refused_lines _ _ _ (sym is ∙ c.in-Err.is)) c.put_refused.ensures
+    rw c.anew-self.ensures (adds_same (refused_lines _ _ _ (sym is ∙ c.in-Err.is)) c.put_refused.ensures)
+
+pub returns-in-Err-clause-answer_value : goal.returns-in-Err-clause-answer_value
+returns-in-Err-clause-answer_value c =
+    let a = c.args.self.now in
+    answer_is a.desk c.args.seg.now a.first a.second _ c.drive-driven.ensures
