@@ -10,7 +10,7 @@ use borrow.Author.Tests.{eq-eqb, ne_eqb, lt-ltb, le-ltb}
 use lib.ListN.{length, get_or, take, drop, length-append, take-append-drop, get_or-append}
 use lib.Seq.{take_all, length-take-le, sets, sets-eq, length-sets}
 use Rattle.octets.specs.Word.{word}
-use Rattle.octets.proofs.Stores.{sets-append, put_mid-sets}
+use Rattle.octets.proofs.Stores.{sets-append}
 use Rattle.rtp.specs.Header.{sequences, is_plain}
 use Rattle.packets.specs.declared.Start.{Start}
 use Rattle.packets.specs.declared.Start.TheVariants.{Running, Whole, Fault}
@@ -97,21 +97,13 @@ module _ (part more : List ℕ) where
         ∙ (λ i. start_by (sym (length-append part more) i) (byte_first 0 some i) (total_length (part ++ more)))
 
   -- stored in three runs
-  joined-stored : (out l m n : List ℕ) (to : ℕ) → l ≡ sets out to (stored_head (length part + length more)) → m ≡ sets l (to + stored_head_bytes) part → n ≡ sets m (to + stored_head_bytes + length part) more → n ≡ sets out to (stored_packet (part ++ more))
+  pub joined-stored : (out l m n : List ℕ) (to : ℕ) → l ≡ sets out to (stored_head (length part + length more)) → m ≡ sets l (to + stored_head_bytes) part → n ≡ sets m (to + stored_head_bytes + length part) more → n ≡ sets out to (stored_packet (part ++ more))
   joined-stored out l m n to el em en =
       en
       ∙ ap (λ (t : List ℕ). sets t (to + stored_head_bytes + length part) more) (em ∙ ap (λ (t : List ℕ). sets t (to + stored_head_bytes) part) el)
       ∙ sym (sets-append part more (sets out to (stored_head (length part + length more))) (to + stored_head_bytes))
       ∙ sym (sets-append (stored_head (length part + length more)) (part ++ more) out to)
       ∙ ap (λ (k : ℕ). sets out to (stored_head k ++ (part ++ more))) (sym (length-append part more))
-
-  pub packet_put : (out store p q : List ℕ) (to : ℕ) → store ≡ sets out to (stored_head (length part + length more)) → p ≡ part → q ≡ more → to + (stored_head_bytes + (length part + length more)) ≤ length out → put_mid (to + stored_head_bytes + length part) (to + stored_head_bytes + (length part + length more) - (to + stored_head_bytes + length part)) (put_mid (to + stored_head_bytes) (to + stored_head_bytes + length part - (to + stored_head_bytes)) store p) q ≡ sets out to (stored_packet (part ++ more))
-  packet_put out store p q to head first second room =
-      let long : length store ≡ length out = ap length head ∙ length-sets out to (stored_head (length part + length more)) in
-      let m : List ℕ = put_mid (to + stored_head_bytes) (to + stored_head_bytes + length part - (to + stored_head_bytes)) store p in
-      let put : m ≡ sets store (to + stored_head_bytes) part = put_mid-sets (to + stored_head_bytes) _ store p part first (omega arith) (omega (arith, long, room)) in
-      let same : length m ≡ length out = ap length put ∙ length-sets store (to + stored_head_bytes) part ∙ long in
-      joined-stored out store m _ to head put (put_mid-sets (to + stored_head_bytes + length part) _ m q more second (omega arith) (omega (arith, same, room)))
 
 -- the bytes that are held, in their memory, and the bytes behind them
 module _ (held : ℕ) (memory : List ℕ) (all : length memory ≡ longest_packet) (least : held ≤ longest_packet) where

@@ -171,9 +171,8 @@ fn put_packet(part: &[u8], more: &[u8], out: &mut [u8], to: usize)
     let n = part.len() + more.len();
     packets::put_head(n, out, to);
     let from = to + STORED_HEAD_BYTES;
-    let middle = from + part.len();
-    out[from..middle].copy_from_slice(part);
-    out[middle..from + n].copy_from_slice(more);
+    copies::put_all(out, from, part);
+    copies::put_all(out, from + part.len(), more);
 }
 
 // ---- the bytes before the marked start, behind a part
@@ -213,7 +212,7 @@ fn read_before(
             if marked {
                 return thrown;
             }
-            part[held..n].copy_from_slice(more);
+            copies::put_all(part, held, more);
             Gained {
                 to: 0,
                 held: n,
@@ -281,7 +280,7 @@ fn read_behind(
     let before = read_before(part, held, ahead, marked, out);
     let after = read_from(behind, out, before.to);
     let running = after.running;
-    part[..running.len()].copy_from_slice(running);
+    copies::put_all(part, 0, running);
     Gained {
         to: after.to,
         held: before.held + running.len(),

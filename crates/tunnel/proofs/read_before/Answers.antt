@@ -1,7 +1,6 @@
 -- `tunnel::read_before` meets its contract, case by case. Assumes nothing.
 use mathlib.Core.Path.{refl, sym, ◌∙◌}
 use native.Mathlib.Omega.{arith}
-use Rattle.octets.proofs.Stores.{put_mid-sets}
 use Rattle.packets.proofs.Laws.{means}
 use Rattle.tunnel.proofs.Laws.{inside, held_front, held_some, joined_length, room, part_behind, before_none, before_other, before_ends, before_cut, before_goes_on, before_fault, gains_thrown, gains_one, gains_part}
 use Rattle.tunnel.proofs.read_before.Goals as goal
@@ -29,10 +28,9 @@ returns-then-marked c = let a = c.args in
     let some = held_some a.held a.part.now c.told-part c.requires.0 c.if-held-eq0.false in
     gains_thrown a.part.now a.out.now _ _ _ _ (before_cut a.marked _ a.more.now some (sym c.in-Running.ensures) c.if-marked.true) (refl, refl, sym l)
 
-pub slice_bounds-copy_from_slice-end : goal.slice_bounds-copy_from_slice-end
-slice_bounds-copy_from_slice-end c = let a = c.args in
-    let l = joined_length a.held a.part.now c.told-part c.requires.0 a.more.now in
-    omega (arith, l, means _ (sym c.in-Running.ensures))
+pub put_all-requires : goal.put_all-requires
+put_all-requires c = let a = c.args in
+    room a.held a.part.now c.told-part c.requires.0 a.more.now (means _ (sym c.in-Running.ensures))
 
 pub returns-else-total-n : goal.returns-else-total-n
 returns-else-total-n c = let a = c.args in
@@ -44,8 +42,7 @@ pub returns-else-marked : goal.returns-else-marked
 returns-else-marked c = let a = c.args in
     let l = joined_length a.held a.part.now c.told-part c.requires.0 a.more.now in
     let some = held_some a.held a.part.now c.told-part c.requires.0 c.if-held-eq0.false in
-    let put = put_mid-sets a.held _ a.part.now _ a.more.now c.copy_from_slice.ensures.after (omega arith) (room a.held a.part.now c.told-part c.requires.0 a.more.now (means _ (sym c.in-Running.ensures))) in
-    gains_part a.part.now a.out.now _ _ _ _ (before_goes_on a.marked _ a.more.now some (sym c.in-Running.ensures) c.if-marked.false) (part_behind a.part.now a.more.now _ a.held (inside a.held a.part.now c.told-part c.requires.0) put) (sym l) (refl, refl)
+    gains_part a.part.now a.out.now _ _ _ _ (before_goes_on a.marked _ a.more.now some (sym c.in-Running.ensures) c.if-marked.false) (part_behind a.part.now a.more.now _ a.held (inside a.held a.part.now c.told-part c.requires.0) c.put_all.ensures) (sym l) (refl, refl)
 
 pub returns-in-Fault : goal.returns-in-Fault
 returns-in-Fault c = let a = c.args in

@@ -3,7 +3,6 @@ use mathlib.Core.Path.{ap}
 use native.Mathlib.Omega.{arith}
 use Prim.Native.Nat.{◌≤◌}
 use lib.ListN.{length}
-use Rattle.octets.proofs.Stores.{put_mid-sets}
 use Rattle.tunnel.proofs.Laws.{inside}
 use Rattle.tunnel.proofs.Behind.{before_held, before_lost, after_parts, after_room, behind_gains}
 use Rattle.tunnel.proofs.read_behind.Goals as goal
@@ -14,8 +13,8 @@ read_from-after-requires c = let a = c.args in
     let i = inside a.held a.part.now c.told-part h.0 in
     after_room a.part.now a.payload.now a.held a.start i h.1 a.marked _ _ c.split_at.ensures.front c.split_at.ensures.back _ _ h.2 (omega (arith, h.3, c.read_before-before.auto.out)) (omega (arith, c.read_before-before.ensures.0))
 
-pub slice_bounds-copy_from_slice-end : goal.slice_bounds-copy_from_slice-end
-slice_bounds-copy_from_slice-end c = let a = c.args in
+pub put_all-requires : goal.put_all-requires
+put_all-requires c = let a = c.args in
     let h = c.requires.held_in_bounds in
     let i = inside a.held a.part.now c.told-part h.0 in
     omega (arith, after_parts a.part.now a.payload.now a.held a.start i h.1 a.marked _ _ c.split_at.ensures.front c.split_at.ensures.back, ap length c.read_from-after.ensures.2, h.2)
@@ -36,5 +35,4 @@ pub returns : goal.returns
 returns c = let a = c.args in
     let h = c.requires.held_in_bounds in
     let i = inside a.held a.part.now c.told-part h.0 in
-    let short : length c.read_from-after.result.running.now ≤ length c.read_before-before.new.part = omega (arith, after_parts a.part.now a.payload.now a.held a.start i h.1 a.marked _ _ c.split_at.ensures.front c.split_at.ensures.back, ap length c.read_from-after.ensures.2, h.2, c.read_before-before.array_long) in
-    behind_gains a.part.now a.payload.now a.held a.start i h.1 a.marked _ _ c.split_at.ensures.front c.split_at.ensures.back c.requires.start_value a.out.now _ _ _ _ _ c.read_before-before.ensures _ _ _ _ c.read_from-after.ensures _ (put_mid-sets 0 _ c.read_before-before.new.part _ c.read_from-after.result.running.now c.copy_from_slice.ensures.after (omega arith) (omega (arith, short)))
+    behind_gains a.part.now a.payload.now a.held a.start i h.1 a.marked _ _ c.split_at.ensures.front c.split_at.ensures.back c.requires.start_value a.out.now _ _ _ _ _ c.read_before-before.ensures _ _ _ _ c.read_from-after.ensures _ c.put_all.ensures
