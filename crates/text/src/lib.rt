@@ -11,9 +11,10 @@ pub fn put_text(word: &[u8], out: &mut [u8], to: usize) -> usize
     requires { to + length word.now ≤ length out.old }
     ensures { Put word.now out.old to out.new result }
 {
-    let end = to + word.len();
-    out[to..end].copy_from_slice(word);
-    end
+    for (i, &byte) in word.iter().enumerate() {
+        out[to + i] = byte;
+    }
+    to + word.len()
 }
 
 // Puts the count digits of a number, from the last to the first.
