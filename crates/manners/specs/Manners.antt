@@ -3,6 +3,7 @@ use Rattle.std.specs.Prelude.{ℕ, ◌+◌, ◌≤◌, ◌≡◌, cond, ◌⊎�
 use Rattle.std.specs.Fn.{Once}
 use Rattle.manners.specs.declared.Came.{Came}
 use Rattle.manners.specs.declared.Came.TheVariants.{Bytes, End, Failed}
+use Rattle.manners.specs.declared.Unfinished.{Unfinished}
 use Rattle.manners.specs.declared.Unsent.{Unsent}
 use Rattle.manners.specs.declared.Unsent.TheVariants.{Gone}
 use Rattle.manners.specs.declared.Unsent.TheVariants.{Failed as NotSent}
@@ -29,6 +30,11 @@ Room block have Failed = Unit {0}
 -- so many bytes at the start of a buffer lie inside it, and are so many
 abbrev pub Counts : ℕ → List ℕ → Type 0
 Counts n buf = (n ≤ length buf) × (n ≡ length (take n buf))
+
+-- how many bytes of a text came, whether a read failed or not
+abbrev pub count_of : Result ℕ Unfinished → ℕ
+count_of (Ok n) = n
+count_of (Err u) = u.have
 
 -- ---- a write that failed, by the system's number of the error
 

@@ -5,8 +5,8 @@ ghost use Rattle.std.specs.Prelude.{◌≡◌, ◌<◌, ◌⊎◌, pos, length, 
 ghost use Rattle.std.specs.Io.{ReadsAtMost, WritesAtMost};
 ghost use Rattle.std.specs.IoError.{raw_os_error};
 ghost use Rattle.std.specs.Option.{unwrap_or};
-ghost use Rattle.std.specs.Io.KnownBytes.{Keeps, Appends, ReadConsumes, WriteAppends};
-ghost use Rattle.manners.specs.Manners.{came_of, bytes_in, sent_of, ended_by, misused, status_of, Counts, Room, Worked};
+ghost use Rattle.std.specs.Io.KnownBytes.{Keeps, Appends, Consumes, ReadConsumes, WriteAppends};
+ghost use Rattle.manners.specs.Manners.{came_of, bytes_in, count_of, sent_of, ended_by, misused, status_of, Counts, Room, Worked};
 
 use std::env::FillError;
 use std::fmt::InlineText;
@@ -23,6 +23,13 @@ pub enum Came {
     // the end of the input
     End,
     Failed,
+}
+
+// What a read that failed leaves of a text: how many bytes came before it, and its error.
+#[derive(Clone, Copy, Debug)]
+pub struct Unfinished {
+    pub have: usize,
+    pub error: io::Error,
 }
 
 // Why a write failed.
@@ -100,20 +107,21 @@ pub fn read_behind<R: Read>(from: &mut R, block: &mut [u8], have: usize) -> Came
     Came::from(from.read(&mut block[have..]))
 }
 
-// Reads until the buffer is full or the input ends; how many bytes came. Where a read failed, its error: then nothing more is said of the buffer
-// than that it is as long as it was.
-pub fn read_full<R: Read>(from: &mut R, buf: &mut [u8]) -> io::Result<usize>
-    ensures counts { IfOk result (λ have. Counts have buf.new) }
+// Reads until the buffer is full or the input ends; how many bytes came, also where a read failed: they are the first of the buffer, and what the
+// reader gave.
+pub fn read_full<R: Read>(from: &mut R, buf: &mut [u8]) -> Result<usize, Unfinished>
+    ensures counts { Counts (count_of result) buf.new }
+    ensures came { Consumes (R.remaining from.old) (R.remaining from.new) (take (count_of result) buf.new) }
     ensures length { length buf.new ≡ length buf.old }
 {
     let mut have = 0;
     // Stays: (d) what is counted is the bytes that came, by reads of any size, of which there may be one or many: no index runs here.
     while have < buf.len() {
-        let came = from.read(&mut buf[have..])?;
-        if came == 0 {
-            break;
+        match from.read(&mut buf[have..]) {
+            Ok(0) => break,
+            Ok(came) => have += came,
+            Err(error) => return Err(Unfinished { have, error }),
         }
-        have += came;
     }
     Ok(have)
 }
