@@ -54,6 +54,16 @@ fn next_by(entry: Entry) -> Result<Option<usize>, Broken>
     }
 }
 
+// The number of what stands there: 0, or that of what can't be read.
+pub fn next_number(next: Result<Option<usize>, Broken>) -> u8
+    ensures { result ≡ next_number next }
+{
+    match next {
+        Ok(_) => 0,
+        Err(broken) => u8::from(broken),
+    }
+}
+
 // What stands at a place of a store: a packet of so many bytes, or no more of them.
 pub fn next_at(store: &[u8], at: usize) -> Result<Option<usize>, Broken>
     ensures { result ≡ next_in (drop at store.now) }

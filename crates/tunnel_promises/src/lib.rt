@@ -67,6 +67,12 @@ pub fn next_at(store: &[u8], at: usize) -> Result<Option<usize>, Broken>
     store::next_at(store, at)
 }
 
+pub fn next_number(next: Result<Option<usize>, Broken>) -> u8
+    ensures { result ≡ next_number next }
+{
+    store::next_number(next)
+}
+
 pub fn broken_number(broken: Broken) -> u8
     ensures { result ≡ next_number (Err broken) }
 {
