@@ -169,8 +169,8 @@ impl Wrap {
         }
     }
 
-    // Closes: the outer packet of what is left, if anything is, is put to the start of the output as a record.
-    fn put_close(&mut self, out: &mut [u8]) -> usize
+    // Closes: the outer packet of what is left, if anything is, is put to the start of the output as a record. Internal: `put_last` calls it.
+    pub fn put_close(&mut self, out: &mut [u8]) -> usize
         requires { (self.old.numbers.size ≤ most_size) × (longest_output ≤ length out.old) }
         ensures { Text·Put (outer_records (closing (writer self.old.numbers self.old.bytes)).outers) out.old 0 out.new result }
     {
