@@ -9,7 +9,7 @@ use native.Mathlib.Omega.{arith}
 use borrow.Author.Tests.{ltb-true, ltb-false, leb-false}
 use lib.Dec.{eqb, ltb, leb}
 use lib.ListN.{length, take, drop, length-append, length-drop, take-append-drop}
-use lib.Seq.{take_at, sets}
+use lib.Seq.{take_at, sets, length-sets}
 use Rattle.octets.specs.Checks.{check}
 use Rattle.octets.specs.Each.{Each}
 use Rattle.octets.proofs.Laws.{either}
@@ -181,6 +181,12 @@ module _ (r : Reader) (outer output : List ℕ) where
       result_cases r outer output (λ u. (u.reader.numbers.held ≡ r.numbers.held) ⊎ (u.reader.numbers.held < longest_packet)) (λ a i. inl refl)
       (λ t. inr (omega arith))
       (λ t inside. inr (means (found r outer output).part (found_running r outer output t)))
+
+  -- the memory of the part keeps its length
+  pub memory_kept : length r.bytes ≡ longest_packet → length (unwrapped r outer output).reader.bytes ≡ longest_packet
+  memory_kept memory =
+      result_cases r outer output (λ u. length u.reader.bytes ≡ longest_packet) (λ a i. memory) (λ t. memory)
+      (λ t inside. length-sets r.bytes 0 (found r outer output).part ∙ memory)
 
   -- the part that is held afterwards
   pub part_held : length r.bytes ≡ longest_packet → Taken r outer output → part_of (holding r outer output (found r outer output).part) ≡ (found r outer output).part
