@@ -5,12 +5,13 @@ use mathlib.Core.List.{List}
 use Prim.Native.Nat.{ℕ, ◌+◌, ◌≤◌}
 use lib.ListN.{length, take}
 use Rattle.records.specs.declared.Entry.{Entry}
-use Rattle.records.specs.Records.{entry_in, is_whole, last_line}
-use Rattle.records.specs.Transcripts.{Program}
+use Rattle.records.specs.Records.{Record, entry_in, is_whole, last_line}
+use Rattle.records.specs.Transcripts.{Program, filled}
 use Rattle.records.specs.Channels.{Channels, output_of, report_of}
 use Rattle.records.specs.Channels.{Fills as Filled}
 use Rattle.records.proofs.Transcripts.{filled_alike}
 use Rattle.programs.specs.Programs.{alone, PutsLast}
+use Rattle.programs.proofs.Alone.{output_alone}
 use Rattle.std.specs.Prelude.{Result}
 use Rattle.manners.specs.declared.Unsent.{Unsent}
 use Rattle.manners.specs.declared.Ending.{Ending}
@@ -19,9 +20,9 @@ use Rattle.manners.specs.declared.Ending.TheVariants.{Unheard as EndUnheard, Not
 use Rattle.blocks.specs.declared.Step.{Step}
 use Rattle.blocks.specs.declared.Step.TheVariants.{Next}
 use Rattle.blocks.specs.declared.Unread.{Unread}
-use Rattle.blocks.specs.Blocks.{most_turns, unread, Proceeds, Concludes, Ends}
+use Rattle.blocks.specs.Blocks.{most_turns, unread, Proceeds, TurnSays, Concludes, Settles, Ends}
 use Rattle.blocks.specs.Channels.{BothSay, LastSaid, RunSays}
-use Rattle.blocks.proofs.Laws.{unread-length, no_more, Fills, put_front, filled_before, turn_says, Keeps, turn_keeps, concluded}
+use Rattle.blocks.proofs.Laws.{unread-length, no_more, Fills, put_front, filled_before, turn_says, Keeps, turn_keeps, settles, concluded}
 
 module _ {S : Type 0} (c : Channels S) where
   -- ---- a turn: the unread part of a block was filled
@@ -69,11 +70,26 @@ module _ {S : Type 0} (c : Channels S) where
       rw (g.2, g.3, g.4)
       (record { state = s; ended = concluded step (entry_in c.forms (unread block at have)) turns r g.0 over spent; last = g.1 })
 
--- a run of a program that reports nothing and puts the last line last
-module _ {S : Type 0} (p : Program S) (last : (s : S) (e : Entry) → p.last s e ≡ last_line e) where
-  pub run_ends : (r : Ending) (turns : ℕ) (e : Entry) (out report : List ℕ) → RunSays (alone p) r turns e out report → Ends r turns e out
-  run_ends (Over n) turns e out report g = (g.ended.0, g.ended.1, subst (λ (l : List ℕ). take (length l) out ≡ l) (last g.state e) g.last.output)
-  run_ends EndNotRead turns e out report g = g.ended
-  run_ends EndUnheard turns e out report g = tt
-  run_ends EndNotWritten turns e out report g = tt
-  run_ends Spent turns e out report g = g.ended
+-- ---- a program that reports nothing: what one channel says
+
+module _ {S : Type 0} (p : Program S) where
+  -- a turn, where a record takes the room of its text and no more
+  module _ (exact : (s : S) (r : Record) → p.cost s r ≡ length (p.text s r)) where
+    pub turn_alone : {s : S} {old : List ℕ} {at have : ℕ} {out report : List ℕ} {t : S} {new out' : List ℕ} {wrote : ℕ} {report' : List ℕ} {told : ℕ} {u : Unread} → BothSay (alone p) s old at have out report t new out' wrote report' told u → TurnSays p.forms (filled p (length out) s (unread old at have)) old at have out t new out' wrote u
+    turn_alone {s = s} {old = old} {at = at} {have = have} {out = out} {t = t} {new = new} {out' = out'} {wrote = wrote} {u = u} says =
+        subst (λ (q : Program S). TurnSays p.forms (filled q (length out) s (unread old at have)) old at have out t new out' wrote u) (output_alone p exact) says.output
+
+  -- the end of a run, where the last line is put last
+  module _ (last : (s : S) (e : Entry) → p.last s e ≡ last_line e) where
+    line_said : (s : S) (e : Entry) (out report : List ℕ) → LastSaid (alone p) s e out report → take (length (last_line e)) out ≡ last_line e
+    line_said s e out report said = subst (λ (l : List ℕ). take (length l) out ≡ l) (last s e) said.output
+
+    pub step_settles : (step : Step) (s : S) (e : Entry) (out report : List ℕ) (r : Ending) → Concludes step e r → LastSaid (alone p) s e out report → Settles step e out r
+    step_settles step s e out report r concludes said = settles step e out r concludes (line_said s e out report said)
+
+    pub run_ends : (r : Ending) (turns : ℕ) (e : Entry) (out report : List ℕ) → RunSays (alone p) r turns e out report → Ends r turns e out
+    run_ends (Over n) turns e out report g = (g.ended.0, g.ended.1, line_said g.state e out report g.last)
+    run_ends EndNotRead turns e out report g = g.ended
+    run_ends EndUnheard turns e out report g = tt
+    run_ends EndNotWritten turns e out report g = tt
+    run_ends Spent turns e out report g = g.ended
