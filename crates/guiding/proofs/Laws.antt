@@ -11,6 +11,12 @@ use Rattle.std.specs.Prelude.{Result, Ok, Err}
 use Rattle.octets.specs.Bits.{Bytes}
 use Rattle.octets.specs.Checks.{check}
 use Rattle.octets.proofs.Laws.{either, get_d_byte}
+use Rattle.text.specs.Text.{Put}
+use Rattle.records.specs.Records.{Record}
+use Rattle.records.specs.Transcripts.{filled}
+use Rattle.records.specs.Channels.{Fills}
+use Rattle.programs.specs.Programs.{alone}
+use Rattle.programs.proofs.Alone.{fills_alone}
 use Rattle.sections.specs.declared.Refusal.{Refusal}
 use Rattle.sections.specs.declared.Refusal.TheVariants.{BadLength, OtherProtocol, NumberAboveLast, RunsOver}
 use Rattle.sections.specs.declared.Standing.{Standing}
@@ -25,7 +31,7 @@ use Rattle.guides.specs.Gathering.{is_noted, begun_as, read_as, result_by, told}
 use Rattle.guides.proofs.Laws.{begun_either}
 use Rattle.guide_lines.specs.Lines.{NamesHad, longest_lines}
 use Rattle.guide_lines.proofs.Laws.{Small, lines_fit}
-use Rattle.guiding.specs.Guiding.{lines_of}
+use Rattle.guiding.specs.Guiding.{lines_of, guide_program}
 
 -- ---- the offset of a refusal is inside of a section
 
@@ -92,3 +98,12 @@ module _ (g : Gathering) (xs : List ℕ) where
 
   pub guide_fits : Bytes xs → length (lines_of g xs) ≤ longest_lines
   guide_fits bytes = lines_fit (told g xs).answer xs names_had (told_small bytes) (get_d_byte xs 8 bytes)
+
+-- ---- what `programs::fill` says of `Guide` is what the program gives
+
+-- a record takes the room of its lines and no more
+pub lines_cost : (g : Gathering) (r : Record) → guide_program.cost g r ≡ length (guide_program.text g r)
+lines_cost g r = refl
+
+pub guide_fills : {g : Gathering} {block out report : List ℕ} {h : Gathering} {read : ℕ} {out' : List ℕ} {wrote : ℕ} {report' : List ℕ} {told : ℕ} → Fills (alone guide_program) g block out report h read out' wrote report' told → let f = filled guide_program (length out) g block in (h ≡ f.state) × (read ≡ f.read) × Put f.text out 0 out' wrote
+guide_fills = fills_alone guide_program lines_cost

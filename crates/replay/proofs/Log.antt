@@ -7,13 +7,17 @@ use native.Mathlib.Omega.{arith}
 use lib.Dec.{eqb}
 use lib.ListN.{length, take, length-take}
 use Rattle.std.proofs.Common.{Result, Ok, Err}
+use Rattle.text.specs.Text.{Put}
 use Rattle.records.specs.declared.Form.{Form}
 use Rattle.records.specs.declared.Form.TheVariants.{Foreign, Fixed}
 use Rattle.records.specs.Records.{mark_of, Record, File, file_in, form_bytes}
 use Rattle.records.specs.declared.Entry.{Entry}
-use Rattle.records.specs.Transcripts.{text_of, printed_with as Transcripts·printedWith}
+use Rattle.records.specs.Transcripts.{text_of, printed_with as Transcripts·printedWith, filled}
+use Rattle.records.specs.Channels.{Fills}
 use Rattle.records.proofs.Entries.{Within}
 use Rattle.records.proofs.Transcripts.{Fits}
+use Rattle.programs.specs.Programs.{alone}
+use Rattle.programs.proofs.Alone.{fills_alone}
 use Rattle.meaning.specs.declared.Refusal.{Refusal}
 use Rattle.meaning.specs.declared.Kind.{Kind}
 use Rattle.meaning.specs.declared.Kind.TheVariants.{This}
@@ -108,5 +112,13 @@ told_fits s (segment c) =
     let a : Result Answer Refusal = (segment_after s.desk c.segment one two).answer in
     length-answer a (shown_in (segment_kind c.segment) t) (few s.desk c.segment one two a refl) (length-shown (segment_kind c.segment) t)
 
+-- a record takes the room of its lines and no more
+pub lines_cost : (s : State) (r : Record) → log_program.cost s r ≡ length (log_program.text s r)
+lines_cost s r = refl
+
 pub lines_fit : Fits log_program
-lines_fit = record { text = λ s r. omega arith; cost = λ s r. told_fits s (call_of s r) }
+lines_fit = record { text = λ s r. omega (arith, lines_cost s r); cost = λ s r. told_fits s (call_of s r) }
+
+-- what `programs::fill` says of `Replay` is what the program gives
+pub log_fills : {s : State} {block out report : List ℕ} {t : State} {read : ℕ} {out' : List ℕ} {wrote : ℕ} {report' : List ℕ} {told : ℕ} → Fills (alone log_program) s block out report t read out' wrote report' told → let f = filled log_program (length out) s block in (t ≡ f.state) × (read ≡ f.read) × Put f.text out 0 out' wrote
+log_fills = fills_alone log_program lines_cost
