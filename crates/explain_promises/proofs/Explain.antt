@@ -12,7 +12,6 @@ use Rattle.octets.specs.Bits.{laid, Bytes}
 use Rattle.octets.specs.Checks.{check}
 use Rattle.octets.specs.Tables.{Row, widths, filled, Shaped, before, number_at}
 use Rattle.octets.proofs.Tables as tables
-use Rattle.text.specs.Text.{text}
 use Rattle.meaning.specs.declared.Part.{Part}
 use Rattle.meaning.specs.declared.Refusal.{Refusal}
 use Rattle.meaning.specs.declared.Refusal.TheVariants.{Clash, EndsEarly}
@@ -29,7 +28,17 @@ use Rattle.desk.specs.declared.Desk.{Desk}
 use Rattle.desk.specs.Desks.{bytes_for, call_checks}
 use Rattle.desk.specs.Calls.{State, state, answer_to, Ready}
 use Rattle.effects.specs.Effects.{slot_before, slot_holding, clashes, completing}
-use Rattle.records.specs.Transcripts.{printed_with}
+use Rattle.text.specs.Text.{text, Put}
+use Rattle.records.specs.declared.Entry.{Entry}
+use Rattle.records.specs.Records.{Record, entry_in}
+use Rattle.records.specs.Transcripts.{filled as Transcripts·filled, printed_with}
+use Rattle.records.specs.Channels.{Fills}
+use Rattle.programs.specs.Programs.{alone}
+use Rattle.manners.specs.declared.Ending.{Ending}
+use Rattle.blocks.specs.declared.Step.{Step}
+use Rattle.blocks.specs.declared.Unread.{Unread}
+use Rattle.blocks.specs.Blocks.{unread, TurnSays, Concludes, Settles, Ends}
+use Rattle.blocks.specs.Channels.{BothSay, LastSaid, RunSays}
 use Rattle.blocks.specs.Turns.{Reading, brought_by, fails_in, last_written, turned, enough}
 use Rattle.fields.specs.declared.Table.TheVariants.{Chunk, Segment}
 use Rattle.field_names.specs.Names.{name_of}
@@ -43,9 +52,11 @@ use Rattle.explains.proofs.Segments as segments
 use Rattle.explains.proofs.Clashes as clash
 use Rattle.lukasembo.specs.Explains.{Told}
 use Rattle.lukasembo.proofs.Explains as packed
-use Rattle.explaining.specs.Explained.{under_segment, longest_text, explain_program}
+use Rattle.explaining.specs.Explained.{explain_form, under_segment, longest_text, explain_program}
+use Rattle.explaining.proofs.Laws as explaining
 use Rattle.explaining.proofs.Under as under
 use Rattle.explain_stream.proofs.Written as written
+use Rattle.explain_stream.proofs.Says as says
 use Rattle.explain_promises.proofs.Exactly as exactly
 
 -- ---- the tables: the running sum of the widths is where a row begins, whatever the table and whatever values it has
@@ -147,3 +158,22 @@ module _ (s : State) (xs : List ℕ) where
 -- what all turns write is what it prints for the file, whatever the reads bring
 pub lines_written : (room : ℕ) (s : State) (xs : List ℕ) (reads : List Reading) (turns : ℕ) → longest_text ≤ room → enough xs reads ≤ turns → turned explain_program room turns s xs reads ≡ printed_with (λ t. last_written (fails_in reads) (explain_program.last t)) explain_program s (xs ++ brought_by reads)
 lines_written = written.lines_written
+
+-- and it is what the code's turns say: a record takes the room of its lines and no more, so what `programs::fill`, `blocks::turn`, `finish` and `run` say
+-- of `Explain`, a program that reports nothing, is what `explain_program` gives of a block, a turn of it, and how its run ends
+
+pub lines_cost : (s : State) (r : Record) → explain_program.cost s r ≡ length (explain_program.text s r)
+lines_cost = explaining.lines_cost
+
+module _ {s t : State} {old out out' report report' : List ℕ} {wrote told : ℕ} where
+  pub fill_says : {read : ℕ} → Fills (alone explain_program) s old out report t read out' wrote report' told → let f = Transcripts·filled explain_program (length out) s old in (t ≡ f.state) × (read ≡ f.read) × Put f.text out 0 out' wrote
+  fill_says = explaining.explain_fills
+
+  pub turn_says : {at have : ℕ} {new : List ℕ} {u : Unread} → BothSay (alone explain_program) s old at have out report t new out' wrote report' told u → TurnSays explain_form (Transcripts·filled explain_program (length out) s (unread old at have)) old at have out t new out' wrote u
+  turn_says = says.turn_says
+
+pub finish_settles : (step : Step) (s : State) (e : Entry) (out report : List ℕ) (r : Ending) → Concludes step e r → LastSaid (alone explain_program) s e out report → Settles step e out r
+finish_settles = says.finish_settles
+
+pub run_ends : (r : Ending) (turns : ℕ) (block : List ℕ) (at have : ℕ) (out report : List ℕ) → RunSays (alone explain_program) r turns (entry_in explain_form (unread block at have)) out report → Ends r turns (entry_in explain_form (unread block at have)) out
+run_ends = says.run_ends

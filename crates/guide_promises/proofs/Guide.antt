@@ -23,10 +23,22 @@ use Rattle.guides.specs.Gathering.{is_noted, empty_of, empty, begun_as, read_as,
 use Rattle.guides.specs.Tables.{answers_to, left_by, Delivery, bytes_of, numbers_of, Begins, dues_from, All, Completes}
 use Rattle.guides.proofs.Results as results
 use Rattle.guides.proofs.Tables as tables
-use Rattle.records.specs.Transcripts.{printed_with}
+use Rattle.text.specs.Text.{Put}
+use Rattle.records.specs.declared.Entry.{Entry}
+use Rattle.records.specs.Records.{Record, entry_in}
+use Rattle.records.specs.Transcripts.{filled, printed_with}
+use Rattle.records.specs.Channels.{Fills}
+use Rattle.programs.specs.Programs.{alone}
+use Rattle.manners.specs.declared.Ending.{Ending}
+use Rattle.blocks.specs.declared.Step.{Step}
+use Rattle.blocks.specs.declared.Unread.{Unread}
+use Rattle.blocks.specs.Blocks.{unread, TurnSays, Concludes, Settles, Ends}
+use Rattle.blocks.specs.Channels.{BothSay, LastSaid, RunSays}
 use Rattle.blocks.specs.Turns.{Reading, brought_by, fails_in, last_written, turned, enough}
 use Rattle.guide_lines.specs.Lines.{longest_lines}
-use Rattle.guiding.specs.Guiding.{guide_program}
+use Rattle.guiding.specs.Guiding.{guide_form, guide_program}
+use Rattle.guiding.proofs.Laws as guiding
+use Rattle.guide_stream.proofs.Says as says
 use Rattle.guide_stream.proofs.Written as written
 
 -- ---- one call, for any gathering and any section
@@ -123,3 +135,22 @@ other-begins = tables.other-begins
 
 pub lines_written : (room : ℕ) (g : Gathering) (xs : List ℕ) (reads : List Reading) (turns : ℕ) → longest_lines ≤ room → enough xs reads ≤ turns → turned guide_program room turns g xs reads ≡ printed_with (λ t. last_written (fails_in reads) (guide_program.last t)) guide_program g (xs ++ brought_by reads)
 lines_written = written.lines_written
+
+-- and it is what the code's turns say: a record takes the room of its lines and no more, so what `programs::fill`, `blocks::turn`, `finish` and `run` say
+-- of `Guide`, a program that reports nothing, is what `guide_program` gives of a block, a turn of it, and how its run ends
+
+pub lines_cost : (g : Gathering) (r : Record) → guide_program.cost g r ≡ length (guide_program.text g r)
+lines_cost = guiding.lines_cost
+
+module _ {g h : Gathering} {old out out' report report' : List ℕ} {wrote told : ℕ} where
+  pub fill_says : {read : ℕ} → Fills (alone guide_program) g old out report h read out' wrote report' told → let f = filled guide_program (length out) g old in (h ≡ f.state) × (read ≡ f.read) × Put f.text out 0 out' wrote
+  fill_says = guiding.guide_fills
+
+  pub turn_says : {at have : ℕ} {new : List ℕ} {u : Unread} → BothSay (alone guide_program) g old at have out report h new out' wrote report' told u → TurnSays guide_form (filled guide_program (length out) g (unread old at have)) old at have out h new out' wrote u
+  turn_says = says.turn_says
+
+pub finish_settles : (step : Step) (g : Gathering) (e : Entry) (out report : List ℕ) (r : Ending) → Concludes step e r → LastSaid (alone guide_program) g e out report → Settles step e out r
+finish_settles = says.finish_settles
+
+pub run_ends : (r : Ending) (turns : ℕ) (block : List ℕ) (at have : ℕ) (out report : List ℕ) → RunSays (alone guide_program) r turns (entry_in guide_form (unread block at have)) out report → Ends r turns (entry_in guide_form (unread block at have)) out
+run_ends = says.run_ends

@@ -66,19 +66,28 @@ use Rattle.desk.specs.Calls.{Call, State, Ready, shown_in, next_frame, Ran, ran,
 use Rattle.effects.proofs.Calls.{frame_only}
 use Rattle.effects.proofs.Ends.{refusal_ends, refusal_within}
 use Rattle.effects.proofs.Refusals.{repeat-unchanged, spoiled_refused}
-use Rattle.text.specs.Text.{text}
+use Rattle.text.specs.Text.{text, Put}
 use Rattle.hex_text.specs.Hex.{hex, hex_fits, hex_said}
 use Rattle.hex_text.proofs.Written.{hex_typed}
 use Rattle.records.specs.declared.Entry.{Entry}
-use Rattle.records.specs.Records.{entry_in, is_whole, size_of, file_up_to, last_line}
+use Rattle.records.specs.Records.{Record, entry_in, is_whole, size_of, file_up_to, last_line}
 use Rattle.records.specs.Transcripts.{Filled, filled, next_in, text_in}
+use Rattle.records.specs.Channels.{Fills}
 use Rattle.records.proofs.Entries.{entry_more}
 use Rattle.records.proofs.Transcripts.{file_any, filled_room, filled_keeps}
+use Rattle.programs.specs.Programs.{alone}
+use Rattle.manners.specs.declared.Ending.{Ending}
+use Rattle.blocks.specs.declared.Step.{Step}
+use Rattle.blocks.specs.declared.Unread.{Unread}
+use Rattle.blocks.specs.Blocks.{unread as Blocks·unread, TurnSays, Concludes, Settles, Ends}
+use Rattle.blocks.specs.Channels.{BothSay, LastSaid, RunSays}
 use Rattle.blocks.specs.Turns.{Reading, brought_by, fails_in, last_written, turned, enough}
 use Rattle.lines.specs.Lines.{longest_lines}
 use Rattle.replay.specs.Log.{log_form, printed, printed_with, log_program}
+use Rattle.replay.proofs.Log as replay
 use Rattle.replay.proofs.Log.{next_ready, lines_fit}
 use Rattle.replay.proofs.Samples.{sample_log, sample_text, start, sample_printed}
+use Rattle.stream.proofs.Says as says
 use Rattle.lukasembo.specs.Packed.{packed_read, packed_written}
 use Rattle.gatherings.proofs.Rounds.{carried-short, written_so_many}
 use Rattle.promises.specs.Before.{chunk_number}
@@ -396,7 +405,7 @@ pub whole_stays_whole : (block rest : List ℕ) → is_whole (entry_in log_form 
 whole_stays_whole block rest w = entry_more log_form block rest (inl w)
 
 -- and of the program's loop: turn after turn, whatever its reads bring and however they cut the log, what is written is the whole transcript. A turn
--- is what `stream::turn` says of itself (`TurnSays`), the reads' bytes are those up to the first read that brings nothing or fails
+-- is what `blocks::turn` says of `Replay` (`TurnSays`, by `turn_says` below), the reads' bytes are those up to the first read that brings nothing or fails
 module _ (room : ℕ) (s : State) (xs : List ℕ) (reads : List Reading) (n : ℕ) (space : longest_lines ≤ room) (turns : enough xs reads ≤ n) where
   pub any_reads : fails_in reads ≡ false → turned log_program room n s xs reads ≡ printed s (xs ++ brought_by reads)
   any_reads = fields.turned-printed room s xs reads n false space turns
@@ -404,3 +413,22 @@ module _ (room : ℕ) (s : State) (xs : List ℕ) (reads : List Reading) (n : �
   -- where a read fails, it is the lines of the records that came, and no last line but that of an unknown mark, behind which nothing is read
   pub failed-read : fails_in reads ≡ true → turned log_program room n s xs reads ≡ printed_with (last_written true last_line) s (xs ++ brought_by reads)
   failed-read = fields.turned-printed room s xs reads n true space turns
+
+-- these are what the code's turns say: a record takes the room of its lines and no more, so what `programs::fill`, `blocks::turn`, `finish` and `run` say of
+-- `Replay`, a program that reports nothing, is what `log_program` gives of a block, a turn of it, and how its run ends
+
+pub lines_cost : (s : State) (r : Record) → log_program.cost s r ≡ length (log_program.text s r)
+lines_cost = replay.lines_cost
+
+module _ {s t : State} {old out out' report report' : List ℕ} {wrote told : ℕ} where
+  pub fill_says : {read : ℕ} → Fills (alone log_program) s old out report t read out' wrote report' told → let f = filled log_program (length out) s old in (t ≡ f.state) × (read ≡ f.read) × Put f.text out 0 out' wrote
+  fill_says = replay.log_fills
+
+  pub turn_says : {at have : ℕ} {new : List ℕ} {u : Unread} → BothSay (alone log_program) s old at have out report t new out' wrote report' told u → TurnSays log_form (filled log_program (length out) s (Blocks·unread old at have)) old at have out t new out' wrote u
+  turn_says = says.turn_says
+
+pub finish_settles : (step : Step) (s : State) (e : Entry) (out report : List ℕ) (r : Ending) → Concludes step e r → LastSaid (alone log_program) s e out report → Settles step e out r
+finish_settles = says.finish_settles
+
+pub run_ends : (r : Ending) (turns : ℕ) (block : List ℕ) (at have : ℕ) (out report : List ℕ) → RunSays (alone log_program) r turns (entry_in log_form (Blocks·unread block at have)) out report → Ends r turns (entry_in log_form (Blocks·unread block at have)) out
+run_ends = says.run_ends
