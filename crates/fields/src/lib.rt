@@ -109,13 +109,27 @@ impl Table {
     }
 }
 
+// ---- over any rows
+
+// The bits before a row, where a run has n bytes.
+fn sum_before(rows: &[Width], n: u8, row: usize) -> usize
+    requires { (n < 8) × (row ≤ length rows.now) × (length rows.now ≤ 16) }
+    ensures value { result ≡ before row (map (bits_of n) rows.now) }
+    ensures upper_bound { result ≤ 255 * row }
+{
+    let mut at = 0usize;
+    for width in &rows[..row] {
+        at += width.bits(n);
+    }
+    at
+}
+
 // The first row that so many bits do not hold whole, where a run has n bytes, and the bits before it; behind the last row, if they hold all.
-pub fn cut(table: Table, n: u8, bits: usize) -> Place
-    requires { n < 8 }
-    ensures value { result ≡ cut_in (widths_of n table) bits }
+fn cut_in(rows: &[Width], n: u8, bits: usize) -> Place
+    requires { (n < 8) × (length rows.now ≤ 16) }
+    ensures value { result ≡ cut_in (map (bits_of n) rows.now) bits }
     ensures at_bound { result.at ≤ 4080 }
 {
-    let rows = table.rows();
     let mut at = 0usize;
     for (row, width) in rows.iter().enumerate() {
         let end = at + width.bits(n);
@@ -158,22 +172,37 @@ fn number_at(bytes: &[u8], from: usize, width: usize) -> usize
     number
 }
 
-// Where a row of at most 16 bits begins, where a run has n bytes, and the number in its bits of a byte string that has them.
-pub fn row_found(table: Table, n: u8, row: u8, bytes: &[u8]) -> Found
-    requires { (n < 8) × (row < length (rows_of table)) × (get_or (widths_of n table) row 0 ≤ 16) × (before row (widths_of n table) + get_or (widths_of n table) row 0 ≤ 8 * length bytes.now) }
-    ensures { result ≡ found_in (widths_of n table) row bytes.now }
+// Where a row begins, where a run has n bytes, and the number in its bits of a byte string that has them.
+fn found_in(rows: &[Width], n: u8, row: usize, bytes: &[u8]) -> Found
+    requires { (n < 8) × (row < length rows.now) × (length rows.now ≤ 16) × (get_or (map (bits_of n) rows.now) row 0 ≤ 16) × (before row (map (bits_of n) rows.now) + get_or (map (bits_of n) rows.now) row 0 ≤ 8 * length bytes.now) }
+    ensures { result ≡ found_in (map (bits_of n) rows.now) row bytes.now }
 {
-    let rows = table.rows();
-    let mut at = 0usize;
-    for width in &rows[..row as usize] {
-        at += width.bits(n);
-    }
-    let width = rows[row as usize].bits(n);
+    let at = sum_before(rows, n, row);
+    let width = rows[row].bits(n);
     let value = number_at(bytes, at, width);
     Found {
         at: at as u16,
         value,
     }
+}
+
+// ---- over each table
+
+// The first row that so many bits do not hold whole, where a run has n bytes, and the bits before it; behind the last row, if they hold all.
+pub fn cut(table: Table, n: u8, bits: usize) -> Place
+    requires { n < 8 }
+    ensures value { result ≡ cut_in (widths_of n table) bits }
+    ensures at_bound { result.at ≤ 4080 }
+{
+    cut_in(table.rows(), n, bits)
+}
+
+// Where a row of at most 16 bits begins, where a run has n bytes, and the number in its bits of a byte string that has them.
+pub fn row_found(table: Table, n: u8, row: u8, bytes: &[u8]) -> Found
+    requires { (n < 8) × (row < length (rows_of table)) × (get_or (widths_of n table) row 0 ≤ 16) × (before row (widths_of n table) + get_or (widths_of n table) row 0 ≤ 8 * length bytes.now) }
+    ensures { result ≡ found_in (widths_of n table) row bytes.now }
+{
+    found_in(table.rows(), n, row as usize, bytes)
 }
 
 // A whole byte: the bits before it, and its value as the number in its bits.

@@ -1,51 +1,7 @@
--- `fields::cut` meets its contract. The loop's invariant: the bits passed are those before the row, which lies no further than the one that is sought. Assumes nothing.
-use mathlib.Core.Path.{◌≡◌, sym, ap, ◌∙◌}
-use mathlib.Core.List.{List, map}
-use Prim.Native.Nat.{ℕ}
-use native.Mathlib.Omega.{arith}
-use lib.ListN.{length, get_or, length-map}
-use Rattle.octets.specs.Tables.{before, first_not_whole}
-use Rattle.octets.proofs.Tables.{not_whole_most}
-use Rattle.fields.specs.Fields.{bits_of, cut_in}
-use Rattle.fields.proofs.Rows.{before_none, before_more, width_of-row, here, behind}
+-- `fields::cut` meets its contract: the rows have the table's widths. Assumes nothing.
+use mathlib.Core.Path.{ap, ◌∙◌}
+use Rattle.fields.specs.Fields.{cut_in}
 use Rattle.fields.proofs.cut.Goals as goal
 
--- the place of a row that is the one sought
-place : (ws vs : List ℕ) (n i at : ℕ) → ws ≡ vs → first_not_whole ws n ≡ i → at ≡ before i ws → record { row = i; at = at } ≡ cut_in vs n
-place ws vs n i at same is there =
-    let row : i ≡ first_not_whole vs n = sym is ∙ ap (λ us. first_not_whole us n) same in
-    let bits : at ≡ before (first_not_whole vs n) vs = rw (← row, ← same) there in
-    λ j. record { row = row j; at = bits j }
-
-pub loop-row-init : goal.loop-row-init
-loop-row-init c = record { passed = sym (before_none _); whole = omega arith; small = omega arith }
-
-pub returns-then-bits-end-clause-value : goal.returns-then-bits-end-clause-value
-returns-then-bits-end-clause-value c = let a = c.args in
-    let l = c.loop-row in
-    let rows = c.rows-rows.result.now in
-    let ws : List ℕ = map (bits_of a.n) rows in
-    let width : get_or ws l.row 0 ≡ c.bits.result = width_of-row a.n rows l.row _ c.loop-row-test.true c.bits.ensures.value in
-    place ws _ a.bits l.row l.at (c.rows-rows.ensures.widths a.n) (here ws a.bits l.row l.invariant.whole (omega arith)) l.invariant.passed
-
-pub loop-row-preserved : goal.loop-row-preserved
-loop-row-preserved c = let a = c.args in
-    let l = c.loop-row in
-    let rows = c.rows-rows.result.now in
-    let ws : List ℕ = map (bits_of a.n) rows in
-    let width : get_or ws l.row 0 ≡ c.bits.result = width_of-row a.n rows l.row _ c.loop-row-test.true c.bits.ensures.value in
-    record {
-      passed = omega (arith, before_more ws l.row c.bits.result width);
-      whole = behind ws a.bits l.row l.invariant.whole (omega (arith, length-map rows (bits_of a.n))) (omega arith);
-      small = omega arith;
-    }
-
 pub returns-clause-value : goal.returns-clause-value
-returns-clause-value c = let a = c.args in
-    let l = c.loop-row in
-    let rows = c.rows-rows.result.now in
-    let ws : List ℕ = map (bits_of a.n) rows in
-    let done : l.row ≡ length rows = omega arith in
-    place ws _ a.bits (length rows) l.at (c.rows-rows.ensures.widths a.n)
-    (omega (arith, not_whole_most ws a.bits, length-map rows (bits_of a.n), l.invariant.whole))
-    (rw (← done) l.invariant.passed)
+returns-clause-value c = c.cut_in.ensures.value ∙ ap (λ ws. cut_in ws c.args.bits) (c.rows.ensures.widths c.args.n)

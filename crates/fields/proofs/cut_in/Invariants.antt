@@ -3,7 +3,7 @@ use mathlib.Core.Path.{◌≡◌}
 use mathlib.Core.List.{map}
 use Rattle.octets.specs.Tables.{before, first_not_whole}
 use Rattle.fields.specs.Fields.{bits_of}
-use Rattle.fields.proofs.cut.Given as goal
+use Rattle.fields.proofs.cut_in.Given as goal
 
 abbrev pub invariant-loop-row : goal.invariant-loop-row
 invariant-loop-row l =
