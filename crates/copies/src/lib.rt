@@ -9,10 +9,8 @@ fn bytes(dst: &mut [u8], to: usize, src: &[u8], from: usize, n: usize)
     requires { (to + n ≤ length dst.old) × (from + n ≤ length src.now) }
     ensures { dst.new ≡ sets dst.old to (take n (drop from src.now)) }
 {
-    let mut i = 0;
-    while i < n {
+    for i in 0..n {
         dst[to + i] = src[from + i];
-        i += 1;
     }
 }
 
@@ -33,6 +31,7 @@ fn blocks(dst: &mut [u8], to: usize, src: &[u8], from: usize, n: usize, width: u
 {
     let last = n - width;
     let mut i = 0;
+    // Stays: (d) the places are a width apart, and the width is a constant only where this is put in line.
     while i < last {
         through(dst, to + i, src, from + i, width);
         i += width;
