@@ -7,7 +7,7 @@ ghost use Rattle.rtp.specs.Header.{header_bytes, payload_in};
 ghost use Rattle.packets.specs.Packets.{longest_packet, start_of};
 ghost use Rattle.packets.specs.Stored.{stored_head_bytes, stored_packet, stored};
 ghost use Rattle.tunnel.specs.Outer.{longest_outer, offset_in, is_outer};
-ghost use Rattle.tunnel.specs.Unwrap.{shortest_output, fresh_numbers, reader, part_of, found_in, found_before, found_at, gap_before, refusal_number, unwrapped_values, AcceptSays, UnwrapSays, Gains};
+ghost use Rattle.tunnel.specs.Unwrap.{shortest_output, fresh_numbers, reader, part_of, found_in, found_before, found_at, is_repeat, gap_before, refusal_number, unwrapped_values, AcceptSays, UnwrapSays, Gains};
 
 use packets::{LONGEST_PACKET, STORED_HEAD_BYTES, Start};
 use rtp::HEADER_BYTES;
@@ -297,6 +297,13 @@ fn is_outer(outer: &[u8]) -> bool
     outer.len() <= LONGEST_OUTER && rtp::is_plain(STLTP, outer)
 }
 
+// Whether the last accepted sequence number comes again.
+fn is_repeat(numbers: Numbers, sequence: u16) -> bool
+    ensures { result ≡ is_repeat numbers sequence }
+{
+    numbers.last == Some(sequence)
+}
+
 // How many outer packets are left out before the one with this sequence number.
 fn gap_before(numbers: Numbers, sequence: u16) -> u16
     ensures { result ≡ gap_before numbers sequence }
@@ -415,7 +422,7 @@ pub fn unwrap(numbers: Numbers, part: &mut [u8; 1500], outer: &[u8], out: &mut [
             numbers,
         };
     }
-    if numbers.last == Some(rtp::sequence_of(outer)) {
+    if is_repeat(numbers, rtp::sequence_of(outer)) {
         return Fed {
             answer: Ok(Unwrapped::Repeat),
             numbers,

@@ -15,9 +15,9 @@ returns-then-not-is_outer c = let a = c.args in
 pub sequence_of-requires : goal.sequence_of-requires
 sequence_of-requires c = let a = c.args in (outer-inside a.outer.now (sym c.is_outer.ensures ∙ c.if-not-is_outer.false)).0
 
-pub returns-then-eq : goal.returns-then-eq
-returns-then-eq c = let a = c.args in
-    says_unchanged a.numbers a.part.now a.outer.now a.out.now (comes_repeat (reader a.numbers a.part.now) a.outer.now a.out.now c.if-out-lt-SHORTEST_OUTPUT.false (sym c.is_outer.ensures ∙ c.if-not-is_outer.false) (ap (is_repeat a.numbers) (sym c.sequence_of.ensures) ∙ sym c.eq.ensures ∙ c.if-eq.true))
+pub returns-then-is_repeat : goal.returns-then-is_repeat
+returns-then-is_repeat c = let a = c.args in
+    says_unchanged a.numbers a.part.now a.outer.now a.out.now (comes_repeat (reader a.numbers a.part.now) a.outer.now a.out.now c.if-out-lt-SHORTEST_OUTPUT.false (sym c.is_outer.ensures ∙ c.if-not-is_outer.false) (ap (is_repeat a.numbers) (sym c.sequence_of.ensures) ∙ sym c.is_repeat.ensures ∙ c.if-is_repeat.true))
 
 pub accept-requires : goal.accept-requires
 accept-requires c = let a = c.args in
@@ -26,4 +26,4 @@ accept-requires c = let a = c.args in
 
 pub returns : goal.returns
 returns c = let a = c.args in
-    says_accepted a.numbers a.part.now a.outer.now a.out.now (comes_accepted (reader a.numbers a.part.now) a.outer.now a.out.now c.if-out-lt-SHORTEST_OUTPUT.false (sym c.is_outer.ensures ∙ c.if-not-is_outer.false) (ap (is_repeat a.numbers) (sym c.sequence_of.ensures) ∙ sym c.eq.ensures ∙ c.if-eq.false)) c.accept.ensures
+    says_accepted a.numbers a.part.now a.outer.now a.out.now (comes_accepted (reader a.numbers a.part.now) a.outer.now a.out.now c.if-out-lt-SHORTEST_OUTPUT.false (sym c.is_outer.ensures ∙ c.if-not-is_outer.false) (ap (is_repeat a.numbers) (sym c.sequence_of.ensures) ∙ sym c.is_repeat.ensures ∙ c.if-is_repeat.false)) c.accept.ensures
