@@ -8,6 +8,7 @@ ghost use Rattle.manners.specs.Manners.{status_of};
 
 use explaining::Explain;
 use manners::Ending;
+use meaning::LONGEST_LISTING;
 use replay::Replay;
 use std::io;
 use std::io::{Read, Write};
@@ -17,8 +18,10 @@ use std::io::{Read, Write};
 pub fn copy<R: Read, W: Write>(from: &mut R, to: &mut W, block: &mut [u8; 131072]) -> Ending
     ensures { T (among run_statuses (status_of result)) }
 {
+    let mut first = [0u8; LONGEST_LISTING];
+    let mut second = [0u8; LONGEST_LISTING];
     let mut explain = Explain {
-        replay: Replay::fresh(),
+        replay: Replay::fresh(&mut first, &mut second),
     };
     blocks::print(&mut explain, from, to, &mut [], &mut io::sink(), block)
 }
@@ -27,8 +30,10 @@ pub fn copy<R: Read, W: Write>(from: &mut R, to: &mut W, block: &mut [u8; 131072
 pub fn copy_slowly<R: Read, W: Write>(from: &mut R, to: &mut W, block: &mut [u8; 65539]) -> Ending
     ensures { T (among run_statuses (status_of result)) }
 {
+    let mut first = [0u8; LONGEST_LISTING];
+    let mut second = [0u8; LONGEST_LISTING];
     let mut explain = Explain {
-        replay: Replay::fresh(),
+        replay: Replay::fresh(&mut first, &mut second),
     };
     blocks::print(&mut explain, from, to, &mut [], &mut io::sink(), block)
 }

@@ -1,7 +1,7 @@
 // The program `explain`: a log replayed on a desk with each refusal explained under its line, and chunks by themselves.
 #![tactic(auto)]
 
-ghost use Rattle.std.specs.Prelude.{◌≡◌, false, refl, [], ◌++◌, ◌+◌, ◌≤◌, ◌<◌, length, drop};
+ghost use Rattle.std.specs.Prelude.{ℕ, ◌≡◌, false, [], ◌++◌, ◌+◌, ◌≤◌, ◌<◌, length, drop};
 ghost use Rattle.text.specs.Output.{HasRoom, Adds};
 ghost use Rattle.records.specs.Records.{length_bytes, mark_of, form_bytes, entry_in};
 ghost use Rattle.programs.specs.Programs.{alone};
@@ -11,7 +11,7 @@ ghost use Rattle.notes.specs.Notes.{slot_for};
 ghost use Rattle.desk.specs.Desks.{bytes_for, side_of, segment_after, shown};
 ghost use Rattle.desk.specs.Calls.{State, Ready};
 ghost use Rattle.lines.specs.Lines.{answer_lines};
-ghost use Rattle.replay.specs.Seen.{seen};
+ghost use Rattle.replay.specs.Seen.{seen, lent, SameMemories};
 ghost use Rattle.explains.specs.Explaining.{chunk_explained, gathered_explained};
 ghost use Rattle.explain_lines.specs.Lines.{explained_line, chunk_lines};
 ghost use Rattle.explaining.specs.Explained.{explain_form, longest_record, refused_by, under_segment, longest_text, explain_program, RecordSays};
@@ -34,9 +34,9 @@ const CH: [u8; 2] = *b"CH";
 const CHUNK_MARK: u16 = CH[0] as u16 * 256 + CH[1] as u16;
 
 // The program, in the state that the records so far left: that of the log.
-#[derive(Clone, Copy)]
-pub struct Explain {
-    pub replay: Replay,
+#[derive(Drop)]
+pub struct Explain<'a> {
+    pub replay: Replay<'a>,
 }
 
 // What a mark of the file tells.
@@ -114,13 +114,14 @@ fn explain_answer(
 
 // ---- the records
 
-impl Explain {
+impl Explain<'_> {
     // A segment: the desk driven, the lines of its answer, and the line that explains a refusal.
     fn segment(&mut self, seg: &[u8], out: &mut Output<'_>)
         requires ready { Ready (seen self.old.replay) }
         requires longest_text_in_bounds { HasRoom longest_text out.old }
-        ensures left { (self.new.replay.desk ≡ (segment_after self.old.replay.desk seg.now self.old.replay.first self.old.replay.second).desk) × (self.new.replay.first ≡ (segment_after self.old.replay.desk seg.now self.old.replay.first self.old.replay.second).first) × (self.new.replay.second ≡ (segment_after self.old.replay.desk seg.now self.old.replay.first self.old.replay.second).second) }
-        ensures put { Adds (answer_lines (segment_after self.old.replay.desk seg.now self.old.replay.first self.old.replay.second).answer (shown (segment_kind seg.now) self.new.replay.desk self.new.replay.first self.new.replay.second) ++ explained_line (under_segment (seen self.old.replay) seg.now)) out.old out.new }
+        ensures left { (self.new.replay.desk ≡ (segment_after self.old.replay.desk seg.now self.old.replay.first.now self.old.replay.second.now).desk) × (self.new.replay.first.now ≡ (segment_after self.old.replay.desk seg.now self.old.replay.first.now self.old.replay.second.now).first) × (self.new.replay.second.now ≡ (segment_after self.old.replay.desk seg.now self.old.replay.first.now self.old.replay.second.now).second) }
+        ensures same_memories { SameMemories self.old.replay self.new.replay }
+        ensures put { Adds (answer_lines (segment_after self.old.replay.desk seg.now self.old.replay.first.now self.old.replay.second.now).answer (shown (segment_kind seg.now) self.new.replay.desk self.new.replay.first.now self.new.replay.second.now) ++ explained_line (under_segment (seen self.old.replay) seg.now)) out.old out.new }
     {
         let kind = kind_in(seg);
         let before = explain_before(kind, &self.replay.desk, seg);
@@ -134,7 +135,8 @@ impl Explain {
         requires ready { Ready (seen self.old.replay) }
         requires longest_text_in_bounds { HasRoom longest_text out.old }
         requires length_bytes_in_bounds { mark ≡ mark_of "CH" → length_bytes ≤ length content.now }
-        ensures { RecordSays (seen self.old.replay) mark content.now (seen self.new.replay) out.old out.new }
+        ensures says { RecordSays (seen self.old.replay) mark content.now (seen self.new.replay) out.old out.new }
+        ensures same_memories { SameMemories self.old.replay self.new.replay }
     {
         match mark {
             CHUNK_MARK => explain_lines::put_chunk(&content[LENGTH_BYTES..], out),
@@ -145,12 +147,16 @@ impl Explain {
     }
 }
 
-impl Program for Explain {
+impl Program for Explain<'_> {
     ghost Seen = { State };
 
     ghost seen = { λ p. seen p.replay };
 
     ghost channels = { alone explain_program };
+
+    ghost Lent = { ℕ × ℕ };
+
+    ghost lent = { λ p. lent p.replay };
 
     ghost Ready = { λ p. Ready (seen p.replay) };
 
@@ -158,11 +164,16 @@ impl Program for Explain {
 
     ghost longest_record = { longest_record };
 
-    const LONGEST: usize = LONGEST;
+    fn longest() -> usize
+        ensures { result ≡ longest_text }
+    {
+        LONGEST
+    }
 
-    ghost LONGEST = { longest_text };
-
-    fn form_of(mark: u16) -> Form {
+    fn form_of(mark: u16) -> Form
+        ensures form { result ≡ explain_form mark }
+        ensures within { form_bytes result ≤ longest_record }
+    {
         form_of(mark)
     }
 
@@ -185,6 +196,4 @@ impl Program for Explain {
         let wrote = records::put_last(entry, out);
         Put { wrote, told: 0 }
     }
-
-    ghost longest_is = { refl };
 }

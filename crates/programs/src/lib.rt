@@ -33,6 +33,11 @@ pub trait Program {
 
     ghost channels: { Channels Seen };
 
+    // the memories that the state was lent, by their names in proofs
+    ghost Lent: { Type 0 };
+
+    ghost lent: { Self → Lent };
+
     // what is so of the state between two records
     ghost Ready: { Self → Type 0 };
 
@@ -43,9 +48,9 @@ pub trait Program {
     ghost longest_record: { ℕ };
 
     // Room for both texts of any record, and for what comes last.
-    const LONGEST: usize;
-
-    ghost LONGEST: { ℕ };
+    // Stays: a function, since the check does not cover a constant in the `impl` of a type with a lifetime.
+    fn longest() -> usize
+        ensures { result ≡ channels.longest };
 
     // What a mark of the file tells.
     fn form_of(mark: u16) -> Form
@@ -67,7 +72,8 @@ pub trait Program {
         requires room { to + channels.longest ≤ length out.old }
         requires tellable { Tellable reports told channels.longest report.old }
         ensures takes { Takes channels (seen self.old) (record { mark = mark; content = content.now }) out.old to report.old told (seen self.new) out.new result.wrote report.new result.told }
-        ensures ready { Ready self.new };
+        ensures ready { Ready self.new }
+        ensures same_memories { lent self.new ≡ lent self.old };
 
     // What comes last, put to the starts of the output and of the report.
     fn put_last(&mut self, entry: Entry, out: &mut [u8], report: &mut [u8]) -> Put
@@ -75,8 +81,6 @@ pub trait Program {
         requires room { channels.longest ≤ length out.old }
         requires tellable { Tellable reports 0 channels.longest report.old }
         ensures { PutsLast channels (seen self.old) entry out.old report.old out.new result.wrote report.new result.told };
-
-    ghost longest_is: { LONGEST ≡ channels.longest };
 }
 
 // What stands at a place of a program's file; the end, or a record that is cut, is shorter than the longest record.
@@ -94,12 +98,13 @@ pub fn fill<P: Program>(program: &mut P, file: &[u8], out: &mut [u8], report: &m
     requires tellable { Tellable P.reports 0 (length out.old) report.old }
     ensures fills { Fills P.channels (P.seen program.old) file.now out.old report.old (P.seen program.new) result.read out.new result.wrote report.new result.told }
     ensures ready { P.Ready program.new }
+    ensures same_memories { P.lent program.new ≡ P.lent program.old }
     ensures inside { (result.wrote ≤ length out.new) × (result.told ≤ length report.new) }
 {
     let mut read = 0;
     let mut wrote = 0;
     let mut told = 0;
-    while P::LONGEST <= out.len() - (wrote + told) {
+    while P::longest() <= out.len() - (wrote + told) {
         let mark = records::mark_at(file, read);
         match records::entry_at(file, read, P::form_of(mark)) {
             Entry::Whole(size) => {

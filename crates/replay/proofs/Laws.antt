@@ -40,7 +40,9 @@ use Rattle.effects.proofs.Frames.{listed_shown}
 use Rattle.effects.proofs.Calls.{lent_whole, left_whole}
 use Rattle.lines.specs.Lines.{frame_lines, gathering_line, list_lines, answer_lines}
 use Rattle.lines.proofs.Laws.{listed_lines}
+use Rattle.replay.specs.declared.Replay.{Replay}
 use Rattle.replay.specs.Log.{log_form, call_of, lines_of, log_program, CallSays}
+use Rattle.replay.specs.Seen.{lent, SameMemories}
 
 -- ---- a new frame: what it shows
 
@@ -125,3 +127,8 @@ module _ (s : State) (mark : ℕ) (content : List ℕ) (o p : Output) where
 
 pub form_foreign : (m : ℕ) → (m ≡ mark_of "FR" → ⊥) → (m ≡ mark_of "GA" → ⊥) → (m ≡ mark_of "SG" → ⊥) → Foreign ≡ log_form m
 form_foreign m f g h = simp (ne_eqb _ _ f, ne_eqb _ _ g, ne_eqb _ _ h)
+
+-- ---- the memories
+
+pub lent_same : (p q : Replay) → SameMemories p q → lent q ≡ lent p
+lent_same p q same = λ i. (same.0 i, same.1 i)

@@ -1,16 +1,17 @@
 // The program `log`: a recorded log replayed on a desk, the call that each of its records makes, and the lines that are printed for it.
 #![tactic(auto)]
 
-ghost use Rattle.std.specs.Prelude.{◌≡◌, false, refl, ◌+◌, ◌≤◌, length, drop};
+ghost use Rattle.std.specs.Prelude.{ℕ, ◌≡◌, false, ◌+◌, ◌≤◌, length, length as List·length, take, drop};
 ghost use Rattle.text.specs.Output.{HasRoom, Adds};
 ghost use Rattle.records.specs.Records.{form_bytes, entry_in};
 ghost use Rattle.programs.specs.Programs.{alone};
 ghost use Rattle.segments.specs.Segment.{segment_kind};
-ghost use Rattle.desk.specs.Desks.{new_frame, new_gathering, segment_after, shown};
+ghost use Rattle.notes.specs.Notes.{lent_for};
+ghost use Rattle.desk.specs.Desks.{fresh, new_frame, new_gathering, segment_after, shown};
 ghost use Rattle.desk.specs.Calls.{State, state, Ready};
 ghost use Rattle.lines.specs.Lines.{frame_lines, gathering_line, answer_lines, longest_lines};
 ghost use Rattle.replay.specs.Log.{log_form, longest_record, log_program, CallSays};
-ghost use Rattle.replay.specs.Seen.{seen};
+ghost use Rattle.replay.specs.Seen.{seen, lent, SameMemories};
 
 use desk::Desk;
 use lines::LONGEST_LINES;
@@ -35,12 +36,12 @@ pub const GATHERING_MARK: u16 = GA[0] as u16 * 256 + GA[1] as u16;
 
 const SEGMENT_MARK: u16 = SG[0] as u16 * 256 + SG[1] as u16;
 
-// The program, in the state that the records so far left: a desk, and the two memories that its lists are put to.
-#[derive(Clone, Copy)]
-pub struct Replay {
+// The program, in the state that the records so far left: a desk, and the two lent memories that its lists are put to.
+#[derive(Drop)]
+pub struct Replay<'a> {
     pub desk: Desk,
-    pub first: [u8; LONGEST_LISTING],
-    pub second: [u8; LONGEST_LISTING],
+    pub first: &'a mut [u8],
+    pub second: &'a mut [u8],
 }
 
 // What a mark of a log tells.
@@ -56,44 +57,53 @@ pub fn form_of(mark: u16) -> Form
     }
 }
 
-impl Replay {
-    // A fresh desk.
-    pub fn fresh() -> Replay
-        ensures { Ready (seen result) }
+impl<'a> Replay<'a> {
+    // A fresh desk, with these memories.
+    pub fn fresh(
+        first: &'a mut [u8; LONGEST_LISTING],
+        second: &'a mut [u8; LONGEST_LISTING],
+    ) -> Replay<'a>
+        ensures left { seen result ≡ state fresh first.old second.old }
+        ensures ready { Ready (seen result) }
     {
         Replay {
             desk: Desk::fresh(),
-            first: [0u8; LONGEST_LISTING],
-            second: [0u8; LONGEST_LISTING],
+            first,
+            second,
         }
+    }
+}
+
+impl Replay<'_> {
+    // The first bytes of the memory that serves this frame or the next.
+    fn listing(&self, kind: Kind, length: usize) -> &[u8]
+        requires { length ≤ List·length (lent_for kind self.now.desk.notes.swapped self.now.first.now self.now.second.now) }
+        ensures { result.now ≡ take length (lent_for kind self.now.desk.notes.swapped self.now.first.now self.now.second.now) }
+    {
+        notes::part(kind, self.desk.notes.swapped, length, self.first, self.second)
     }
 
     // A new frame: the desk's bytes cleared, and the lines of what it shows.
     fn frame(&mut self, out: &mut Output<'_>)
         requires ready { Ready (seen self.old) }
         requires longest_lines_in_bounds { HasRoom longest_lines out.old }
-        ensures left { seen self.new ≡ state (new_frame self.old.desk) self.old.first self.old.second }
-        ensures put { Adds (frame_lines (shown Kind.This self.new.desk self.new.first self.new.second)) out.old out.new }
+        ensures left { seen self.new ≡ state (new_frame self.old.desk) self.old.first.now self.old.second.now }
+        ensures same_memories { SameMemories self.old self.new }
+        ensures put { Adds (frame_lines (shown Kind.This self.new.desk self.new.first.now self.new.second.now)) out.old out.new }
     {
         let notes = self.desk.notes;
         desk::clear(notes, &mut self.desk.bytes);
         let after = notes.frame();
         self.desk.notes = after;
-        let listing = notes::part(
-            Kind::This,
-            after.swapped,
-            after.shown,
-            &self.first,
-            &self.second,
-        );
-        lines::put_frame(listing, out);
+        lines::put_frame(self.listing(Kind::This, after.shown), out);
     }
 
     // A new gathering: the desk's bytes cleared, and its line.
     fn gathering(&mut self, out: &mut Output<'_>)
         requires ready { Ready (seen self.old) }
         requires longest_lines_in_bounds { HasRoom longest_lines out.old }
-        ensures left { seen self.new ≡ state (new_gathering self.old.desk) self.old.first self.old.second }
+        ensures left { seen self.new ≡ state (new_gathering self.old.desk) self.old.first.now self.old.second.now }
+        ensures same_memories { SameMemories self.old self.new }
         ensures put { Adds gathering_line out.old out.new }
     {
         let notes = self.desk.notes;
@@ -106,25 +116,24 @@ impl Replay {
     pub fn segment(&mut self, seg: &[u8], out: &mut Output<'_>) -> Result<Answer, Refusal>
         requires ready { Ready (seen self.old) }
         requires longest_lines_in_bounds { HasRoom longest_lines out.old }
-        ensures left { (self.new.desk ≡ (segment_after self.old.desk seg.now self.old.first self.old.second).desk) × (self.new.first ≡ (segment_after self.old.desk seg.now self.old.first self.old.second).first) × (self.new.second ≡ (segment_after self.old.desk seg.now self.old.first self.old.second).second) }
-        ensures answer_value { result ≡ (segment_after self.old.desk seg.now self.old.first self.old.second).answer }
-        ensures put { Adds (answer_lines (segment_after self.old.desk seg.now self.old.first self.old.second).answer (shown (segment_kind seg.now) self.new.desk self.new.first self.new.second)) out.old out.new }
+        ensures left { (self.new.desk ≡ (segment_after self.old.desk seg.now self.old.first.now self.old.second.now).desk) × (self.new.first.now ≡ (segment_after self.old.desk seg.now self.old.first.now self.old.second.now).first) × (self.new.second.now ≡ (segment_after self.old.desk seg.now self.old.first.now self.old.second.now).second) }
+        ensures same_memories { SameMemories self.old self.new }
+        ensures answer_value { result ≡ (segment_after self.old.desk seg.now self.old.first.now self.old.second.now).answer }
+        ensures put { Adds (answer_lines (segment_after self.old.desk seg.now self.old.first.now self.old.second.now).answer (shown (segment_kind seg.now) self.new.desk self.new.first.now self.new.second.now)) out.old out.new }
     {
         let notes = self.desk.notes;
         let driven = desk::drive(
             notes,
             &mut self.desk.bytes,
             seg,
-            &mut self.first,
-            &mut self.second,
+            self.first,
+            self.second,
         );
-        let after = driven.notes;
-        self.desk.notes = after.anew();
+        self.desk.notes = driven.notes.anew();
         let answer = driven.answer;
         match answer {
             Ok(Answer::NewList { kind, length }) => {
-                let listing = notes::part(kind, after.swapped, length, &self.first, &self.second);
-                lines::put_list(kind, listing, out);
+                lines::put_list(kind, self.listing(kind, length), out)
             }
             Ok(Answer::Missing(n)) => lines::put_missing(n, out),
             Err(refusal) => lines::put_refused(refusal, out),
@@ -136,7 +145,8 @@ impl Replay {
     pub fn call(&mut self, mark: u16, content: &[u8], out: &mut Output<'_>)
         requires ready { Ready (seen self.old) }
         requires longest_lines_in_bounds { HasRoom longest_lines out.old }
-        ensures { CallSays (seen self.old) mark content.now (seen self.new) out.old out.new }
+        ensures says { CallSays (seen self.old) mark content.now (seen self.new) out.old out.new }
+        ensures same_memories { SameMemories self.old self.new }
     {
         match mark {
             FRAME_MARK => self.frame(out),
@@ -148,12 +158,16 @@ impl Replay {
     }
 }
 
-impl Program for Replay {
+impl Program for Replay<'_> {
     ghost Seen = { State };
 
     ghost seen = { seen };
 
     ghost channels = { alone log_program };
+
+    ghost Lent = { ℕ × ℕ };
+
+    ghost lent = { lent };
 
     ghost Ready = { λ p. Ready (seen p) };
 
@@ -161,11 +175,16 @@ impl Program for Replay {
 
     ghost longest_record = { longest_record };
 
-    const LONGEST: usize = LONGEST_LINES;
+    fn longest() -> usize
+        ensures { result ≡ longest_lines }
+    {
+        LONGEST_LINES
+    }
 
-    ghost LONGEST = { longest_lines };
-
-    fn form_of(mark: u16) -> Form {
+    fn form_of(mark: u16) -> Form
+        ensures form { result ≡ log_form mark }
+        ensures within { form_bytes result ≤ longest_record }
+    {
         form_of(mark)
     }
 
@@ -188,8 +207,6 @@ impl Program for Replay {
         let wrote = records::put_last(entry, out);
         Put { wrote, told: 0 }
     }
-
-    ghost longest_is = { refl };
 }
 
 // What stands at a place of a log.

@@ -2,7 +2,7 @@
 // report.
 #![tactic(auto)]
 
-ghost use Rattle.std.specs.Prelude.{◌≡◌, true, refl, ◌+◌, ◌*◌, ◌-◌, ◌≤◌, length, drop};
+ghost use Rattle.std.specs.Prelude.{◌≡◌, true, ◌+◌, ◌*◌, ◌-◌, ◌≤◌, length, drop};
 ghost use Rattle.std.proofs.lemmas.List.Edits.{sets};
 ghost use Rattle.text.specs.Text.{Put as Text·Put};
 ghost use Rattle.records.specs.Records.{entry_in};
@@ -190,15 +190,19 @@ impl Program for Wrap {
 
     ghost channels = { wrap_channels };
 
+    ghost Lent = { Unit {0} };
+
+    ghost lent = { λ p. tt };
+
     ghost Ready = { λ p. p.numbers.size ≤ most_size };
 
     ghost reports = { true };
 
     ghost longest_record = { longest_record };
 
-    const LONGEST: usize = LONGEST_OUTPUT;
-
-    ghost LONGEST = { longest_output };
+    fn longest() -> usize {
+        LONGEST_OUTPUT
+    }
 
     fn form_of(mark: u16) -> Form {
         match mark {
@@ -235,8 +239,6 @@ impl Program for Wrap {
         let told = records::put_last(entry, report);
         Put { wrote, told }
     }
-
-    ghost longest_is = { refl };
 }
 
 // What stands at a place of the file.

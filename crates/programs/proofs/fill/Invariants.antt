@@ -1,4 +1,5 @@
 -- What is left to fill, put here, makes the whole that was asked for; the measure is what is left of the file. Assumes nothing.
+use mathlib.Core.Path.{◌≡◌}
 use Prim.Native.Nat.{◌-◌}
 use lib.ListN.{length}
 use Rattle.programs.proofs.Filling.{Doing}
@@ -8,6 +9,7 @@ abbrev pub invariant-loop-out : goal.invariant-loop-out
 invariant-loop-out g l = record {
   doing : Doing g.P.Program.channels (g.P.Program.seen l.initial.program) l.file l.initial.out l.initial.report (g.P.Program.seen l.program) l.out l.report l.read l.wrote l.told;
   ready : g.P.Program.Ready l.program;
+  same_memories : g.P.Program.lent l.program ≡ g.P.Program.lent l.initial.program;
 }
 
 abbrev pub decreases-loop-out : goal.decreases-loop-out

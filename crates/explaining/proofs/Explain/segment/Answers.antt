@@ -16,19 +16,19 @@ use Rattle.explaining.proofs.Explain.segment.Goals as goal
 pub explain_answer-explained-requires : goal.explain_answer-explained-requires
 explain_answer-explained-requires c =
     let a = c.args.self.now.replay in
-    left_last a.desk c.args.seg.now a.first a.second c.requires.ready.0 c.segment-answer.ensures.left.0 c.kind_in-kind.result
+    left_last a.desk c.args.seg.now a.first.now a.second.now c.requires.ready.0 c.segment-answer.ensures.left.0 c.kind_in-kind.result
 
 pub put_explained-requires : goal.put_explained-requires
 put_explained-requires c =
     let a = c.args.self.now.replay in
     let s = c.segment-answer in
-    room_left s.ensures.put _ _ (omega (arith, answer_room a.desk c.args.seg.now a.first a.second s.new.self.desk s.new.self.first s.new.self.second)) c.requires.longest_text_in_bounds
+    room_left s.ensures.put _ _ (omega (arith, answer_room a.desk c.args.seg.now a.first.now a.second.now s.new.self.desk s.new.self.first.now s.new.self.second.now)) c.requires.longest_text_in_bounds
 
 pub returns-clause-put : goal.returns-clause-put
 returns-clause-put c =
     let a = c.args.self.now.replay in
     let xs = c.args.seg.now in
     let s = c.segment-answer in
-    let explained = under_is a.desk xs a.first a.second c.kind_in-kind.ensures s.ensures.left.0 s.ensures.answer_value c.explain_before-before.ensures c.explain_answer-explained.ensures in
-    let front = answer_lines (segment_after a.desk xs a.first a.second).answer (shown (segment_kind xs) s.new.self.desk s.new.self.first s.new.self.second) in
+    let explained = under_is a.desk xs a.first.now a.second.now c.kind_in-kind.ensures s.ensures.left.0 s.ensures.answer_value c.explain_before-before.ensures c.explain_answer-explained.ensures in
+    let front = answer_lines (segment_after a.desk xs a.first.now a.second.now).answer (shown (segment_kind xs) s.new.self.desk s.new.self.first.now s.new.self.second.now) in
     adds_same (ap (λ (e : Option Explained). front ++ explained_line e) explained) (adds_both s.ensures.put c.put_explained.ensures)

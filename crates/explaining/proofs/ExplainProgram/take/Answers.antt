@@ -3,6 +3,7 @@ use Rattle.std.proofs.Common.{rules, sym, subst}
 use Rattle.desk.specs.Calls.{Ready}
 use Rattle.programs.proofs.Alone.{takes_alone}
 use Rattle.replay.specs.Seen.{seen}
+use Rattle.replay.proofs.Laws.{lent_same}
 use Rattle.explaining.specs.Explained.{explain_program}
 use Rattle.explaining.proofs.Fits.{record-short, record_fits, explain_ready}
 use Rattle.explaining.proofs.ExplainProgram.take.Goals as goal
@@ -14,7 +15,12 @@ pub returns-clause-takes : goal.returns-clause-takes
 returns-clause-takes c =
     let a = c.args in
     let s = seen a.self.now.replay in
-    takes_alone explain_program c.call.ensures.0 (c.call.ensures.1.at, search rules) (record_fits s c.requires.ready (record { mark = a.mark; content = a.content.now }) (record-short a.mark a.content.now c.requires.holds)) c.requires.tellable.0
+    let says = c.call.ensures.says in
+    takes_alone explain_program says.0 (says.1.at, search rules) (record_fits s c.requires.ready (record { mark = a.mark; content = a.content.now }) (record-short a.mark a.content.now c.requires.holds)) c.requires.tellable.0
 
 pub returns-clause-ready : goal.returns-clause-ready
-returns-clause-ready c = subst Ready (sym c.call.ensures.0) (explain_ready (seen c.args.self.now.replay) (record { mark = c.args.mark; content = c.args.content.now }) c.requires.ready)
+returns-clause-ready c =
+    subst Ready (sym c.call.ensures.says.0) (explain_ready (seen c.args.self.now.replay) (record { mark = c.args.mark; content = c.args.content.now }) c.requires.ready)
+
+pub returns-clause-same_memories : goal.returns-clause-same_memories
+returns-clause-same_memories c = lent_same c.args.self.now.replay c.call.new.self.replay c.call.ensures.same_memories

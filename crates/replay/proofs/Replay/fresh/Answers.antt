@@ -4,5 +4,5 @@ use Rattle.desk.specs.Desks.{well_formed}
 use Rattle.effects.proofs.Keeps.{fresh-fits}
 use Rattle.replay.proofs.Replay.fresh.Goals as goal
 
-pub returns : goal.returns
-returns c = (ap well_formed c.fresh.ensures ∙ fresh-fits, omega arith, omega arith)
+pub returns-clause-ready : goal.returns-clause-ready
+returns-clause-ready c = (ap well_formed c.fresh.ensures ∙ fresh-fits, omega arith, omega arith)

@@ -8,4 +8,4 @@ use Rattle.replay.proofs.Replay.gathering.Goals as goal
 pub returns-clause-left : goal.returns-clause-left
 returns-clause-left c =
     let a = c.args.self.now in
-    rw c.clear.ensures (ap (λ (d : Desk). state d a.first a.second) (gathering_fit a.desk _ c.requires.ready.0 c.gathering-self.ensures))
+    rw c.clear.ensures (ap (λ (d : Desk). state d a.first.now a.second.now) (gathering_fit a.desk _ c.requires.ready.0 c.gathering-self.ensures))
