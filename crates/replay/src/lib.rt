@@ -66,8 +66,9 @@ impl<'a> Replay<'a> {
         ensures left { seen result ≡ state fresh first.old second.old }
         ensures ready { Ready (seen result) }
     {
+        let desk = Desk::fresh();
         Replay {
-            desk: Desk::fresh(),
+            desk,
             first,
             second,
         }
@@ -80,7 +81,13 @@ impl Replay<'_> {
         requires { length ≤ List·length (lent_for kind self.now.desk.notes.swapped self.now.first.now self.now.second.now) }
         ensures { result.now ≡ take length (lent_for kind self.now.desk.notes.swapped self.now.first.now self.now.second.now) }
     {
-        notes::part(kind, self.desk.notes.swapped, length, self.first, self.second)
+        notes::part(
+            kind,
+            self.desk.notes.swapped,
+            length,
+            self.first,
+            self.second,
+        )
     }
 
     // A new frame: the desk's bytes cleared, and the lines of what it shows.
@@ -122,13 +129,7 @@ impl Replay<'_> {
         ensures put { Adds (answer_lines (segment_after self.old.desk seg.now self.old.first.now self.old.second.now).answer (shown (segment_kind seg.now) self.new.desk self.new.first.now self.new.second.now)) out.old out.new }
     {
         let notes = self.desk.notes;
-        let driven = desk::drive(
-            notes,
-            &mut self.desk.bytes,
-            seg,
-            self.first,
-            self.second,
-        );
+        let driven = desk::drive(notes, &mut self.desk.bytes, seg, self.first, self.second);
         self.desk.notes = driven.notes.anew();
         let answer = driven.answer;
         match answer {
