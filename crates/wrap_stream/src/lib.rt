@@ -10,7 +10,7 @@ ghost use Rattle.wrap_stream.specs.Streams.{wrap_statuses};
 
 use manners::Ending;
 use std::io::{Read, Write};
-use wrapping::Wrap;
+use wrapping::{LONGEST_OUTPUT, Wrap};
 
 // The number of a size that payloads may not have.
 const BAD_SIZE: u8 = 18;
@@ -29,7 +29,8 @@ fn wrap<R: Read, W: Write, V: Write>(
     if !wrapper::is_size(size) {
         return Ending::Over(BAD_SIZE);
     }
-    let mut program = Wrap::fresh(size);
+    let mut outers = [0u8; LONGEST_OUTPUT];
+    let mut program = Wrap::fresh(size, &mut outers);
     let mut report = [0u8; 65536];
     blocks::print(&mut program, from, to, &mut report, aside, block)
 }

@@ -2,15 +2,15 @@
 // report.
 #![tactic(auto)]
 
-ghost use Rattle.std.specs.Prelude.{◌≡◌, true, ◌+◌, ◌*◌, ◌-◌, ◌≤◌, length, drop};
+ghost use Rattle.std.specs.Prelude.{ℕ, ◌≡◌, true, ◌+◌, ◌*◌, ◌-◌, ◌≤◌, length, drop};
 ghost use Rattle.std.proofs.lemmas.List.Edits.{sets};
 ghost use Rattle.text.specs.Text.{Put as Text·Put};
-ghost use Rattle.records.specs.Records.{entry_in};
+ghost use Rattle.records.specs.Records.{form_bytes, entry_in};
 ghost use Rattle.reports.specs.Reports.{longest_report};
 ghost use Rattle.wrapper.specs.Wrap.{most_size, writer, fresh_numbers};
 ghost use Rattle.wrapping.specs.Words.{size_in, capped};
 ghost use Rattle.wrapping.specs.Wrapping.{stamp_bytes, wrap_form, longest_record, longest_output, State, stamp_in, closing, record_head_bytes, outer_record, outer_records, cut_into, wrap_channels, FedTo};
-ghost use Rattle.wrapping.specs.Seen.{seen};
+ghost use Rattle.wrapping.specs.Seen.{seen, lent};
 
 use packets::{LONGEST_PACKET, SHORTEST_PACKET};
 use programs::{Program, Put};
@@ -34,14 +34,14 @@ const TI: [u8; 2] = *b"TI";
 const STAMP_MARK: u16 = TI[0] as u16 * 256 + TI[1] as u16;
 
 // The program, in the state that the records so far left: the writer's numbers, the memory of its bytes, the timestamp, and how many records were read; and
-// memory for the outer packets of a call.
-#[derive(Clone, Copy)]
-pub struct Wrap {
+// lent memory for the outer packets of a call.
+#[derive(Drop)]
+pub struct Wrap<'a> {
     pub numbers: Numbers,
     pub bytes: [u8; 1400],
     pub stamp: u32,
     pub count: u64,
-    pub outers: [u8; LONGEST_OUTPUT],
+    pub outers: &'a mut [u8],
 }
 
 // ---- the word
@@ -112,20 +112,22 @@ fn stamp_of(content: &[u8]) -> u32
     high * 65536 + low
 }
 
-impl Wrap {
-    // A fresh writer of this size.
-    pub fn fresh(size: usize) -> Wrap
-        ensures { (result.numbers ≡ fresh_numbers size 0) × (result.stamp ≡ 0) × (result.count ≡ 0) }
+impl<'a> Wrap<'a> {
+    // A fresh writer of this size, with this memory.
+    pub fn fresh(size: usize, outers: &'a mut [u8; LONGEST_OUTPUT]) -> Wrap<'a>
+        ensures { (result.numbers ≡ fresh_numbers size 0) × (result.stamp ≡ 0) × (result.count ≡ 0) × (result.outers.now ≡ outers.old) }
     {
         Wrap {
             numbers: wrapper::fresh(size, 0),
             bytes: [0u8; 1400],
             stamp: 0,
             count: 0,
-            outers: [0u8; LONGEST_OUTPUT],
+            outers,
         }
     }
+}
 
+impl Wrap<'_> {
     // A packet: the outer packets that it fills, and its line of the report.
     fn feed(
         &mut self,
@@ -135,21 +137,17 @@ impl Wrap {
         report: &mut [u8],
         told: usize,
     ) -> Put
-        requires { (self.old.numbers.size ≤ most_size) × (to + longest_output ≤ length out.old) × (told + longest_report ≤ length report.old) }
-        ensures { FedTo (seen self.old) packet.now out.old to report.old told (seen self.new) out.new result.wrote report.new result.told }
+        requires { (self.old.numbers.size ≤ most_size) × (longest_output ≤ length self.old.outers.now) × (to + longest_output ≤ length out.old) × (told + longest_report ≤ length report.old) }
+        ensures fed { FedTo (seen self.old) packet.now out.old to report.old told (seen self.new) out.new result.wrote report.new result.told }
+        ensures long { length self.new.outers.now ≡ length self.old.outers.now }
+        ensures same_memories { lent self.new ≡ lent self.old }
     {
         let numbers = self.numbers;
         let each = HEADER_BYTES + numbers.size;
-        let given = wrapper::wrap(
-            numbers,
-            &mut self.bytes,
-            packet,
-            self.stamp,
-            &mut self.outers,
-        );
+        let given = wrapper::wrap(numbers, &mut self.bytes, packet, self.stamp, self.outers);
         self.numbers = given.numbers;
         let v = wrapper::values_of(given.answer);
-        let wrote = put_outers(v.wrote / each, each, &self.outers, out, to);
+        let wrote = put_outers(v.wrote / each, each, self.outers, out, to);
         let n = reports::next_count(self.count);
         self.count = n;
         let said = Said {
@@ -171,40 +169,47 @@ impl Wrap {
 
     // Closes: the outer packet of what is left, if anything is, is put to the start of the output as a record. Internal: `put_last` calls it.
     pub fn put_close(&mut self, out: &mut [u8]) -> usize
-        requires { (self.old.numbers.size ≤ most_size) × (longest_output ≤ length out.old) }
-        ensures { Text·Put (outer_records (closing (writer self.old.numbers self.old.bytes)).outers) out.old 0 out.new result }
+        requires { (self.old.numbers.size ≤ most_size) × (longest_output ≤ length self.old.outers.now) × (longest_output ≤ length out.old) }
+        ensures put { Text·Put (outer_records (closing (writer self.old.numbers self.old.bytes)).outers) out.old 0 out.new result }
+        ensures left { seen self.new ≡ seen self.old }
+        ensures same_memories { lent self.new ≡ lent self.old }
     {
-        let given = wrapper::close(self.numbers, &self.bytes, &mut self.outers);
+        let given = wrapper::close(self.numbers, &self.bytes, self.outers);
         let v = wrapper::values_of(given.answer);
         if v.wrote == 0 {
             return 0;
         }
-        put_outers(1, v.wrote, &self.outers, out, 0)
+        put_outers(1, v.wrote, self.outers, out, 0)
     }
 }
 
-impl Program for Wrap {
+impl Program for Wrap<'_> {
     ghost Seen = { State };
 
     ghost seen = { seen };
 
     ghost channels = { wrap_channels };
 
-    ghost Lent = { Unit {0} };
+    ghost Lent = { ℕ };
 
-    ghost lent = { λ p. tt };
+    ghost lent = { lent };
 
-    ghost Ready = { λ p. p.numbers.size ≤ most_size };
+    ghost Ready = { λ p. (p.numbers.size ≤ most_size) × (longest_output ≤ length p.outers.now) };
 
     ghost reports = { true };
 
     ghost longest_record = { longest_record };
 
-    fn longest() -> usize {
+    fn longest() -> usize
+        ensures { result ≡ longest_output }
+    {
         LONGEST_OUTPUT
     }
 
-    fn form_of(mark: u16) -> Form {
+    fn form_of(mark: u16) -> Form
+        ensures form { result ≡ wrap_form mark }
+        ensures within { form_bytes result ≤ longest_record }
+    {
         match mark {
             STAMP_MARK => Form::Fixed(4),
             PACKET_MARK => Form::Counted {

@@ -8,4 +8,4 @@ pub put_last-told-requires : goal.put_last-told-requires
 put_last-told-requires c = omega (arith, c.requires.tellable.1 refl)
 
 pub returns : goal.returns
-returns c = puts_last (seen c.args.self.now) c.args.entry c.requires.room (c.requires.tellable.1 refl) c.put_close-wrote.ensures c.put_last-told.ensures
+returns c = puts_last (seen c.args.self.now) c.args.entry c.requires.room (c.requires.tellable.1 refl) c.put_close-wrote.ensures.put c.put_last-told.ensures

@@ -13,7 +13,7 @@ pub slice_bounds-feed-start : goal.slice_bounds-feed-start
 slice_bounds-feed-start c = packet_long c.args.mark c.args.content.now c.if-mark-eq-STAMP_MARK.false c.requires.holds
 
 pub feed-requires : goal.feed-requires
-feed-requires c = (c.requires.ready, c.requires.room, omega (arith, c.requires.tellable.1 refl))
+feed-requires c = (c.requires.ready.0, c.requires.ready.1, c.requires.room, omega (arith, c.requires.tellable.1 refl))
 
 pub returns-then-mark-eq-STAMP_MARK-clause-takes : goal.returns-then-mark-eq-STAMP_MARK-clause-takes
 returns-then-mark-eq-STAMP_MARK-clause-takes c =
@@ -23,11 +23,11 @@ returns-then-mark-eq-STAMP_MARK-clause-takes c =
 pub returns-clause-takes : goal.returns-clause-takes
 returns-clause-takes c =
     let a = c.args in
-    packet_takes (seen a.self.now) a.mark a.content.now a.out.now a.to a.report.now a.told (c.requires.tellable.1 refl) c.if-mark-eq-STAMP_MARK.false _ (all_behind 2 a.content.now) c.feed.ensures
+    packet_takes (seen a.self.now) a.mark a.content.now a.out.now a.to a.report.now a.told (c.requires.tellable.1 refl) c.if-mark-eq-STAMP_MARK.false _ (all_behind 2 a.content.now) c.feed.ensures.fed
 
 pub returns-clause-ready : goal.returns-clause-ready
 returns-clause-ready c =
     let a = c.args in
     let s = seen a.self.now in
-    let t = packet_takes s a.mark a.content.now a.out.now a.to a.report.now a.told (c.requires.tellable.1 refl) c.if-mark-eq-STAMP_MARK.false _ (all_behind 2 a.content.now) c.feed.ensures in
-    omega (arith, ap (λ (x : State). x.writer.numbers.size) t.left ∙ next_size s.writer.numbers.size s (record { mark = a.mark; content = a.content.now }) refl, c.requires.ready)
+    let t = packet_takes s a.mark a.content.now a.out.now a.to a.report.now a.told (c.requires.tellable.1 refl) c.if-mark-eq-STAMP_MARK.false _ (all_behind 2 a.content.now) c.feed.ensures.fed in
+    (omega (arith, ap (λ (x : State). x.writer.numbers.size) t.left ∙ next_size s.writer.numbers.size s (record { mark = a.mark; content = a.content.now }) refl, c.requires.ready.0), omega (arith, c.feed.ensures.long, c.requires.ready.1))
