@@ -6,6 +6,7 @@ ghost use Rattle.octets.specs.Checks.{among};
 ghost use Rattle.blocks.specs.Blocks.{run_statuses};
 ghost use Rattle.manners.specs.Manners.{status_of};
 
+use desk::BYTES;
 use explaining::Explain;
 use manners::Ending;
 use meaning::LONGEST_LISTING;
@@ -18,10 +19,11 @@ use std::io::{Read, Write};
 pub fn copy<R: Read, W: Write>(from: &mut R, to: &mut W, block: &mut [u8; 131072]) -> Ending
     ensures { T (among run_statuses (status_of result)) }
 {
+    let mut bytes = [0u8; BYTES];
     let mut first = [0u8; LONGEST_LISTING];
     let mut second = [0u8; LONGEST_LISTING];
     let mut explain = Explain {
-        replay: Replay::fresh(&mut first, &mut second),
+        replay: Replay::fresh(&mut bytes, &mut first, &mut second),
     };
     blocks::print(&mut explain, from, to, &mut [], &mut io::sink(), block)
 }
@@ -30,10 +32,11 @@ pub fn copy<R: Read, W: Write>(from: &mut R, to: &mut W, block: &mut [u8; 131072
 pub fn copy_slowly<R: Read, W: Write>(from: &mut R, to: &mut W, block: &mut [u8; 65539]) -> Ending
     ensures { T (among run_statuses (status_of result)) }
 {
+    let mut bytes = [0u8; BYTES];
     let mut first = [0u8; LONGEST_LISTING];
     let mut second = [0u8; LONGEST_LISTING];
     let mut explain = Explain {
-        replay: Replay::fresh(&mut first, &mut second),
+        replay: Replay::fresh(&mut bytes, &mut first, &mut second),
     };
     blocks::print(&mut explain, from, to, &mut [], &mut io::sink(), block)
 }

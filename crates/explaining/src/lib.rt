@@ -5,21 +5,22 @@ ghost use Rattle.std.specs.Prelude.{ℕ, ◌≡◌, false, [], ◌++◌, ◌+◌
 ghost use Rattle.text.specs.Output.{HasRoom, Adds};
 ghost use Rattle.records.specs.Records.{length_bytes, mark_of, form_bytes, entry_in};
 ghost use Rattle.programs.specs.Programs.{alone};
+ghost use Rattle.meaning.specs.Sizes.{longest_chunk};
 ghost use Rattle.segments.specs.Segment.{segment_kind, most_segments};
 ghost use Rattle.slots.specs.Gathering.{chunk_in};
 ghost use Rattle.notes.specs.Notes.{slot_for};
-ghost use Rattle.desk.specs.Desks.{bytes_for, side_of, segment_after, shown};
+ghost use Rattle.desk.specs.Desks.{desk, bytes_for, side_of, segment_after, shown};
 ghost use Rattle.desk.specs.Calls.{State, Ready};
 ghost use Rattle.lines.specs.Lines.{answer_lines};
-ghost use Rattle.replay.specs.Seen.{seen, lent, SameMemories};
+ghost use Rattle.replay.specs.Seen.{desk_of, seen, lent, SameMemories};
 ghost use Rattle.explains.specs.Explaining.{chunk_explained, gathered_explained};
 ghost use Rattle.explain_lines.specs.Lines.{explained_line, chunk_lines};
 ghost use Rattle.explaining.specs.Explained.{explain_form, longest_record, refused_by, under_segment, longest_text, explain_program, RecordSays};
 
-use desk::Desk;
 use explain_lines::LONGEST;
 use explains::Explained;
 use meaning::{Kind, LONGEST_CHUNK, Refusal};
+use notes::Notes;
 use programs::{Program, Put};
 use records::{Entry, Form, LENGTH_BYTES};
 use replay::{FRAME_MARK, GATHERING_MARK, Replay};
@@ -73,26 +74,27 @@ fn kind_in(seg: &[u8]) -> Kind
 }
 
 // The segment itself and the slot of its kind.
-fn explain_before(kind: Kind, desk: &Desk, seg: &[u8]) -> Option<Explained>
-    ensures { result ≡ gathered_explained (slot_for kind desk.now.notes) (bytes_for kind desk.now) seg.now }
+fn explain_before(kind: Kind, notes: Notes, bytes: &[u8], seg: &[u8]) -> Option<Explained>
+    requires { length bytes.now ≡ longest_chunk + longest_chunk }
+    ensures { result ≡ gathered_explained (slot_for kind notes) (bytes_for kind (desk notes bytes.now)) seg.now }
 {
-    let slot = notes::own(kind, desk.notes);
+    let slot = notes::own(kind, notes);
     match kind {
-        Kind::This => explains::explain_gathered(seg, slot, &desk.bytes[..LONGEST_CHUNK]),
-        Kind::Next => explains::explain_gathered(seg, slot, &desk.bytes[LONGEST_CHUNK..]),
+        Kind::This => explains::explain_gathered(seg, slot, &bytes[..LONGEST_CHUNK]),
+        Kind::Next => explains::explain_gathered(seg, slot, &bytes[LONGEST_CHUNK..]),
     }
 }
 
 // The chunk that the slot of a kind holds.
-fn explain_held(kind: Kind, desk: &Desk) -> Option<Explained>
-    requires { (slot_for kind desk.now.notes).last < most_segments }
-    ensures { result ≡ chunk_explained (chunk_in (side_of kind desk.now [])) }
+fn explain_held(kind: Kind, notes: Notes, bytes: &[u8]) -> Option<Explained>
+    requires { (length bytes.now ≡ longest_chunk + longest_chunk) × ((slot_for kind notes).last < most_segments) }
+    ensures { result ≡ chunk_explained (chunk_in (side_of kind (desk notes bytes.now) [])) }
 {
-    let slot = notes::own(kind, desk.notes);
+    let slot = notes::own(kind, notes);
     let end = PAYLOAD_BYTES * (slot.last as usize + 1);
     match kind {
-        Kind::This => explains::explain_chunk(&desk.bytes[..end]),
-        Kind::Next => explains::explain_chunk(&desk.bytes[LONGEST_CHUNK..LONGEST_CHUNK + end]),
+        Kind::This => explains::explain_chunk(&bytes[..end]),
+        Kind::Next => explains::explain_chunk(&bytes[LONGEST_CHUNK..LONGEST_CHUNK + end]),
     }
 }
 
@@ -101,14 +103,15 @@ fn explain_answer(
     answer: Result<Answer, Refusal>,
     before: Option<Explained>,
     kind: Kind,
-    desk: &Desk,
+    notes: Notes,
+    bytes: &[u8],
 ) -> Option<Explained>
-    requires { (slot_for kind desk.now.notes).last < most_segments }
-    ensures { result ≡ refused_by answer before (chunk_explained (chunk_in (side_of kind desk.now []))) }
+    requires { (length bytes.now ≡ longest_chunk + longest_chunk) × ((slot_for kind notes).last < most_segments) }
+    ensures { result ≡ refused_by answer before (chunk_explained (chunk_in (side_of kind (desk notes bytes.now) []))) }
 {
     match answer {
         Ok(_) => None,
-        Err(_) => before.or_else(|| explain_held(kind, desk)),
+        Err(_) => before.or_else(|| explain_held(kind, notes, bytes)),
     }
 }
 
@@ -119,14 +122,18 @@ impl Explain<'_> {
     fn segment(&mut self, seg: &[u8], out: &mut Output<'_>)
         requires ready { Ready (seen self.old.replay) }
         requires longest_text_in_bounds { HasRoom longest_text out.old }
-        ensures left { (self.new.replay.desk ≡ (segment_after self.old.replay.desk seg.now self.old.replay.first.now self.old.replay.second.now).desk) × (self.new.replay.first.now ≡ (segment_after self.old.replay.desk seg.now self.old.replay.first.now self.old.replay.second.now).first) × (self.new.replay.second.now ≡ (segment_after self.old.replay.desk seg.now self.old.replay.first.now self.old.replay.second.now).second) }
+        ensures left { (desk_of self.new.replay ≡ (segment_after (desk_of self.old.replay) seg.now self.old.replay.first.now self.old.replay.second.now).desk) × (self.new.replay.first.now ≡ (segment_after (desk_of self.old.replay) seg.now self.old.replay.first.now self.old.replay.second.now).first) × (self.new.replay.second.now ≡ (segment_after (desk_of self.old.replay) seg.now self.old.replay.first.now self.old.replay.second.now).second) }
         ensures same_memories { SameMemories self.old.replay self.new.replay }
-        ensures put { Adds (answer_lines (segment_after self.old.replay.desk seg.now self.old.replay.first.now self.old.replay.second.now).answer (shown (segment_kind seg.now) self.new.replay.desk self.new.replay.first.now self.new.replay.second.now) ++ explained_line (under_segment (seen self.old.replay) seg.now)) out.old out.new }
+        ensures put { Adds (answer_lines (segment_after (desk_of self.old.replay) seg.now self.old.replay.first.now self.old.replay.second.now).answer (shown (segment_kind seg.now) (desk_of self.new.replay) self.new.replay.first.now self.new.replay.second.now) ++ explained_line (under_segment (seen self.old.replay) seg.now)) out.old out.new }
     {
         let kind = kind_in(seg);
-        let before = explain_before(kind, &self.replay.desk, seg);
+        let notes = self.replay.notes;
+        let bytes = &mut *self.replay.bytes;
+        let before = explain_before(kind, notes, bytes, seg);
         let answer = self.replay.segment(seg, out);
-        let explained = explain_answer(answer, before, kind, &self.replay.desk);
+        let after = self.replay.notes;
+        let bytes = &mut *self.replay.bytes;
+        let explained = explain_answer(answer, before, kind, after, bytes);
         explain_lines::put_explained(explained, out);
     }
 
@@ -154,7 +161,7 @@ impl Program for Explain<'_> {
 
     ghost channels = { alone explain_program };
 
-    ghost Lent = { ℕ × ℕ };
+    ghost Lent = { ℕ × ℕ × ℕ };
 
     ghost lent = { λ p. lent p.replay };
 

@@ -131,4 +131,4 @@ form_foreign m f g h = simp (ne_eqb _ _ f, ne_eqb _ _ g, ne_eqb _ _ h)
 -- ---- the memories
 
 pub lent_same : (p q : Replay) → SameMemories p q → lent q ≡ lent p
-lent_same p q same = λ i. (same.0 i, same.1 i)
+lent_same p q same = λ i. (same.0 i, same.1 i, same.2 i)

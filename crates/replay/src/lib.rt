@@ -11,11 +11,12 @@ ghost use Rattle.desk.specs.Desks.{fresh, new_frame, new_gathering, segment_afte
 ghost use Rattle.desk.specs.Calls.{State, state, Ready};
 ghost use Rattle.lines.specs.Lines.{frame_lines, gathering_line, answer_lines, longest_lines};
 ghost use Rattle.replay.specs.Log.{log_form, longest_record, log_program, CallSays};
-ghost use Rattle.replay.specs.Seen.{seen, lent, SameMemories};
+ghost use Rattle.replay.specs.Seen.{desk_of, seen, lent, SameMemories};
 
-use desk::Desk;
+use desk::{BYTES, Desk};
 use lines::LONGEST_LINES;
 use meaning::{Kind, LONGEST_LISTING, Refusal};
+use notes::Notes;
 use programs::{Program, Put};
 use records::{Entry, Form};
 use segments::SEGMENT_BYTES;
@@ -36,10 +37,11 @@ pub const GATHERING_MARK: u16 = GA[0] as u16 * 256 + GA[1] as u16;
 
 const SEGMENT_MARK: u16 = SG[0] as u16 * 256 + SG[1] as u16;
 
-// The program, in the state that the records so far left: a desk, and the two lent memories that its lists are put to.
+// The program, in the state that the records so far left: the desk's numbers, and the lent memories of its bytes and of its two lists.
 #[derive(Drop)]
 pub struct Replay<'a> {
-    pub desk: Desk,
+    pub notes: Notes,
+    pub bytes: &'a mut [u8],
     pub first: &'a mut [u8],
     pub second: &'a mut [u8],
 }
@@ -60,6 +62,7 @@ pub fn form_of(mark: u16) -> Form
 impl<'a> Replay<'a> {
     // A fresh desk, with these memories.
     pub fn fresh(
+        bytes: &'a mut [u8; BYTES],
         first: &'a mut [u8; LONGEST_LISTING],
         second: &'a mut [u8; LONGEST_LISTING],
     ) -> Replay<'a>
@@ -67,8 +70,11 @@ impl<'a> Replay<'a> {
         ensures ready { Ready (seen result) }
     {
         let desk = Desk::fresh();
+        let none = desk.bytes;
+        *bytes = none;
         Replay {
-            desk,
+            notes: desk.notes,
+            bytes,
             first,
             second,
         }
@@ -78,30 +84,24 @@ impl<'a> Replay<'a> {
 impl Replay<'_> {
     // The first bytes of the memory that serves this frame or the next.
     fn listing(&self, kind: Kind, length: usize) -> &[u8]
-        requires { length ≤ List·length (lent_for kind self.now.desk.notes.swapped self.now.first.now self.now.second.now) }
-        ensures { result.now ≡ take length (lent_for kind self.now.desk.notes.swapped self.now.first.now self.now.second.now) }
+        requires { length ≤ List·length (lent_for kind self.now.notes.swapped self.now.first.now self.now.second.now) }
+        ensures { result.now ≡ take length (lent_for kind self.now.notes.swapped self.now.first.now self.now.second.now) }
     {
-        notes::part(
-            kind,
-            self.desk.notes.swapped,
-            length,
-            self.first,
-            self.second,
-        )
+        notes::part(kind, self.notes.swapped, length, self.first, self.second)
     }
 
     // A new frame: the desk's bytes cleared, and the lines of what it shows.
     fn frame(&mut self, out: &mut Output<'_>)
         requires ready { Ready (seen self.old) }
         requires longest_lines_in_bounds { HasRoom longest_lines out.old }
-        ensures left { seen self.new ≡ state (new_frame self.old.desk) self.old.first.now self.old.second.now }
+        ensures left { seen self.new ≡ state (new_frame (desk_of self.old)) self.old.first.now self.old.second.now }
         ensures same_memories { SameMemories self.old self.new }
-        ensures put { Adds (frame_lines (shown Kind.This self.new.desk self.new.first.now self.new.second.now)) out.old out.new }
+        ensures put { Adds (frame_lines (shown Kind.This (desk_of self.new) self.new.first.now self.new.second.now)) out.old out.new }
     {
-        let notes = self.desk.notes;
-        desk::clear(notes, &mut self.desk.bytes);
+        let notes = self.notes;
+        desk::clear(notes, self.bytes);
         let after = notes.frame();
-        self.desk.notes = after;
+        self.notes = after;
         lines::put_frame(self.listing(Kind::This, after.shown), out);
     }
 
@@ -109,13 +109,13 @@ impl Replay<'_> {
     fn gathering(&mut self, out: &mut Output<'_>)
         requires ready { Ready (seen self.old) }
         requires longest_lines_in_bounds { HasRoom longest_lines out.old }
-        ensures left { seen self.new ≡ state (new_gathering self.old.desk) self.old.first.now self.old.second.now }
+        ensures left { seen self.new ≡ state (new_gathering (desk_of self.old)) self.old.first.now self.old.second.now }
         ensures same_memories { SameMemories self.old self.new }
         ensures put { Adds gathering_line out.old out.new }
     {
-        let notes = self.desk.notes;
-        desk::clear(notes, &mut self.desk.bytes);
-        self.desk.notes = notes.gathering();
+        let notes = self.notes;
+        desk::clear(notes, self.bytes);
+        self.notes = notes.gathering();
         lines::put_gathering(out);
     }
 
@@ -123,14 +123,14 @@ impl Replay<'_> {
     pub fn segment(&mut self, seg: &[u8], out: &mut Output<'_>) -> Result<Answer, Refusal>
         requires ready { Ready (seen self.old) }
         requires longest_lines_in_bounds { HasRoom longest_lines out.old }
-        ensures left { (self.new.desk ≡ (segment_after self.old.desk seg.now self.old.first.now self.old.second.now).desk) × (self.new.first.now ≡ (segment_after self.old.desk seg.now self.old.first.now self.old.second.now).first) × (self.new.second.now ≡ (segment_after self.old.desk seg.now self.old.first.now self.old.second.now).second) }
+        ensures left { (desk_of self.new ≡ (segment_after (desk_of self.old) seg.now self.old.first.now self.old.second.now).desk) × (self.new.first.now ≡ (segment_after (desk_of self.old) seg.now self.old.first.now self.old.second.now).first) × (self.new.second.now ≡ (segment_after (desk_of self.old) seg.now self.old.first.now self.old.second.now).second) }
         ensures same_memories { SameMemories self.old self.new }
-        ensures answer_value { result ≡ (segment_after self.old.desk seg.now self.old.first.now self.old.second.now).answer }
-        ensures put { Adds (answer_lines (segment_after self.old.desk seg.now self.old.first.now self.old.second.now).answer (shown (segment_kind seg.now) self.new.desk self.new.first.now self.new.second.now)) out.old out.new }
+        ensures answer_value { result ≡ (segment_after (desk_of self.old) seg.now self.old.first.now self.old.second.now).answer }
+        ensures put { Adds (answer_lines (segment_after (desk_of self.old) seg.now self.old.first.now self.old.second.now).answer (shown (segment_kind seg.now) (desk_of self.new) self.new.first.now self.new.second.now)) out.old out.new }
     {
-        let notes = self.desk.notes;
-        let driven = desk::drive(notes, &mut self.desk.bytes, seg, self.first, self.second);
-        self.desk.notes = driven.notes.anew();
+        let notes = self.notes;
+        let driven = desk::drive(notes, self.bytes, seg, self.first, self.second);
+        self.notes = driven.notes.anew();
         let answer = driven.answer;
         match answer {
             Ok(Answer::NewList { kind, length }) => {
@@ -166,7 +166,7 @@ impl Program for Replay<'_> {
 
     ghost channels = { alone log_program };
 
-    ghost Lent = { ℕ × ℕ };
+    ghost Lent = { ℕ × ℕ × ℕ };
 
     ghost lent = { lent };
 

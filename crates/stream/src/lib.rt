@@ -6,6 +6,7 @@ ghost use Rattle.octets.specs.Checks.{among};
 ghost use Rattle.blocks.specs.Blocks.{run_statuses};
 ghost use Rattle.manners.specs.Manners.{status_of};
 
+use desk::BYTES;
 use manners::Ending;
 use meaning::LONGEST_LISTING;
 use replay::Replay;
@@ -17,9 +18,10 @@ use std::io::{Read, Write};
 pub fn copy<R: Read, W: Write>(from: &mut R, to: &mut W, block: &mut [u8; 65536]) -> Ending
     ensures { T (among run_statuses (status_of result)) }
 {
+    let mut bytes = [0u8; BYTES];
     let mut first = [0u8; LONGEST_LISTING];
     let mut second = [0u8; LONGEST_LISTING];
-    let mut log = Replay::fresh(&mut first, &mut second);
+    let mut log = Replay::fresh(&mut bytes, &mut first, &mut second);
     blocks::print(&mut log, from, to, &mut [], &mut io::sink(), block)
 }
 
@@ -27,8 +29,9 @@ pub fn copy<R: Read, W: Write>(from: &mut R, to: &mut W, block: &mut [u8; 65536]
 pub fn copy_slowly<R: Read, W: Write>(from: &mut R, to: &mut W, block: &mut [u8; 39]) -> Ending
     ensures { T (among run_statuses (status_of result)) }
 {
+    let mut bytes = [0u8; BYTES];
     let mut first = [0u8; LONGEST_LISTING];
     let mut second = [0u8; LONGEST_LISTING];
-    let mut log = Replay::fresh(&mut first, &mut second);
+    let mut log = Replay::fresh(&mut bytes, &mut first, &mut second);
     blocks::print(&mut log, from, to, &mut [], &mut io::sink(), block)
 }

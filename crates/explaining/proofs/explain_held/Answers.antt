@@ -31,13 +31,13 @@ pub returns-in-This : goal.returns-in-This
 returns-in-This c =
     let a = c.args in
     let is = c.in-This.is in
-    let own = c.own-slot.ensures ∙ ap (λ (k : Kind). slot_for k a.desk.now.notes) is in
-    let few : (slot_for This a.desk.now.notes).last < most_segments = omega (arith, c.requires, ap (λ (k : Kind). (slot_for k a.desk.now.notes).last) is) in
-    c.explain_chunk.ensures ∙ ap chunk_explained (held-this a.desk.now.notes a.desk.now.bytes c.own-slot.result own few) ∙ ap (λ (k : Kind). chunk_explained (chunk_in (side_of k (desk a.desk.now.notes a.desk.now.bytes) []))) (sym is)
+    let own = c.own-slot.ensures ∙ ap (λ (k : Kind). slot_for k a.notes) is in
+    let few : (slot_for This a.notes).last < most_segments = omega (arith, c.requires.1, ap (λ (k : Kind). (slot_for k a.notes).last) is) in
+    c.explain_chunk.ensures ∙ ap chunk_explained (held-this a.notes a.bytes.now c.own-slot.result own few) ∙ ap (λ (k : Kind). chunk_explained (chunk_in (side_of k (desk a.notes a.bytes.now) []))) (sym is)
 
 pub returns-in-Next : goal.returns-in-Next
 returns-in-Next c =
     let a = c.args in
     let is = c.in-Next.is in
-    let own = c.own-slot.ensures ∙ ap (λ (k : Kind). slot_for k a.desk.now.notes) is in
-    c.explain_chunk-in-Next.ensures ∙ ap chunk_explained (held_next a.desk.now.notes a.desk.now.bytes c.own-slot.result own) ∙ ap (λ (k : Kind). chunk_explained (chunk_in (side_of k (desk a.desk.now.notes a.desk.now.bytes) []))) (sym is)
+    let own = c.own-slot.ensures ∙ ap (λ (k : Kind). slot_for k a.notes) is in
+    c.explain_chunk-in-Next.ensures ∙ ap chunk_explained (held_next a.notes a.bytes.now c.own-slot.result own) ∙ ap (λ (k : Kind). chunk_explained (chunk_in (side_of k (desk a.notes a.bytes.now) []))) (sym is)
