@@ -10,7 +10,7 @@ ghost use Rattle.blocks.specs.Blocks.{unread as Blocks·unread, step_after, Refi
 ghost use Rattle.blocks.specs.Channels.{BothSay, LastSaid, RunSays};
 
 use manners::{Came, Ending, Unsent};
-use programs::Program;
+use programs::Borrower;
 use records::Entry;
 use std::io::{Read, Write};
 
@@ -174,7 +174,7 @@ struct Turned {
 }
 
 // One turn: the records at the start of what is unread, as many as the output has room for; what they put is written, and it goes on behind them.
-fn turn<P: Program, R: Read, W: Write, V: Write>(
+fn turn<P: Borrower, R: Read, W: Write, V: Write>(
     program: &mut P,
     block: &mut [u8],
     at: usize,
@@ -206,7 +206,7 @@ fn turn<P: Program, R: Read, W: Write, V: Write>(
 }
 
 // Ends a run at a step: what comes last is put, and written if no more can come.
-fn finish<P: Program, W: Write, V: Write>(
+fn finish<P: Borrower, W: Write, V: Write>(
     program: &mut P,
     step: Step,
     turns: u64,
@@ -243,7 +243,7 @@ fn finish<P: Program, W: Write, V: Write>(
 }
 
 // Runs a program on a file that is read through the lent block. Internal.
-pub fn run<P: Program, R: Read, W: Write, V: Write>(
+pub fn run<P: Borrower, R: Read, W: Write, V: Write>(
     program: &mut P,
     block: &mut [u8],
     out: &mut [u8],
@@ -287,7 +287,7 @@ pub fn run<P: Program, R: Read, W: Write, V: Write>(
 }
 
 // The same with an output of its own; how the run ended. Internal.
-pub fn print<P: Program, R: Read, W: Write, V: Write>(
+pub fn print<P: Borrower, R: Read, W: Write, V: Write>(
     program: &mut P,
     from: &mut R,
     to: &mut W,

@@ -21,7 +21,7 @@ use explain_lines::LONGEST;
 use explains::Explained;
 use meaning::{Kind, LONGEST_CHUNK, Refusal};
 use notes::Notes;
-use programs::{Program, Put};
+use programs::{Borrower, Put};
 use records::{Entry, Form, LENGTH_BYTES};
 use replay::{FRAME_MARK, GATHERING_MARK, Replay};
 use segments::PAYLOAD_BYTES;
@@ -154,7 +154,7 @@ impl Explain<'_> {
     }
 }
 
-impl Program for Explain<'_> {
+impl Borrower for Explain<'_> {
     ghost Seen = { State };
 
     ghost seen = { λ p. seen p.replay };

@@ -1,7 +1,7 @@
 // The program `guide`: a file of sections given to a gathering, record by record, and the lines that are printed for each.
 #![tactic(auto)]
 
-ghost use Rattle.std.specs.Prelude.{◌≡◌, false, drop};
+ghost use Rattle.std.specs.Prelude.{◌≡◌, false, refl, drop};
 ghost use Rattle.records.specs.Records.{entry_in};
 ghost use Rattle.programs.specs.Programs.{alone};
 ghost use Rattle.guides.specs.declared.Gathering.{Gathering};
@@ -33,19 +33,15 @@ impl Program for Guide {
 
     ghost channels = { alone guide_program };
 
-    ghost Lent = { Unit {0} };
-
-    ghost lent = { λ p. tt };
-
     ghost Ready = { λ p. Unit {0} };
 
     ghost reports = { false };
 
     ghost longest_record = { longest_record };
 
-    fn longest() -> usize {
-        LONGEST_LINES
-    }
+    const LONGEST: usize = LONGEST_LINES;
+
+    ghost LONGEST = { longest_lines };
 
     fn form_of(mark: u16) -> Form {
         match mark {
@@ -80,6 +76,8 @@ impl Program for Guide {
         let wrote = records::put_last(entry, out);
         Put { wrote, told: 0 }
     }
+
+    ghost longest_is = { refl };
 }
 
 // What stands at a place of the file.

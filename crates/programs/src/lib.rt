@@ -33,6 +33,62 @@ pub trait Program {
 
     ghost channels: { Channels Seen };
 
+    // what is so of the state between two records
+    ghost Ready: { Self → Type 0 };
+
+    // whether anything is reported
+    ghost reports: { Bool };
+
+    // the bytes of the longest record
+    ghost longest_record: { ℕ };
+
+    // Room for both texts of any record, and for what comes last.
+    const LONGEST: usize;
+
+    ghost LONGEST: { ℕ };
+
+    // What a mark of the file tells.
+    fn form_of(mark: u16) -> Form
+        ensures form { result ≡ channels.forms mark }
+        ensures within { form_bytes result ≤ longest_record };
+
+    // A record: its text is put to a place of the output, and what is reported of it to a place of the report.
+    fn take(
+        &mut self,
+        mark: u16,
+        content: &[u8],
+        out: &mut [u8],
+        to: usize,
+        report: &mut [u8],
+        told: usize,
+    ) -> Put
+        requires ready { Ready self.old }
+        requires holds { Holds (channels.forms mark) content.now }
+        requires room { to + channels.longest ≤ length out.old }
+        requires tellable { Tellable reports told channels.longest report.old }
+        ensures takes { Takes channels (seen self.old) (record { mark = mark; content = content.now }) out.old to report.old told (seen self.new) out.new result.wrote report.new result.told }
+        ensures ready { Ready self.new };
+
+    // What comes last, put to the starts of the output and of the report.
+    fn put_last(&mut self, entry: Entry, out: &mut [u8], report: &mut [u8]) -> Put
+        requires ready { Ready self.old }
+        requires room { channels.longest ≤ length out.old }
+        requires tellable { Tellable reports 0 channels.longest report.old }
+        ensures { PutsLast channels (seen self.old) entry out.old report.old out.new result.wrote report.new result.told };
+
+    ghost longest_is: { LONGEST ≡ channels.longest };
+}
+
+// The same of a program whose state may be lent its memories: `take` says that they stay the same ones.
+// Stays beside `Program`: (a) who implements that one writes a constant, and has nothing to say of lent memories.
+pub trait Borrower {
+    // how the state is seen by what a program is said to do, and that
+    ghost Seen: { Type 0 };
+
+    ghost seen: { Self → Seen };
+
+    ghost channels: { Channels Seen };
+
     // the memories that the state was lent, by their names in proofs
     ghost Lent: { Type 0 };
 
@@ -83,8 +139,51 @@ pub trait Program {
         ensures { PutsLast channels (seen self.old) entry out.old report.old out.new result.wrote report.new result.told };
 }
 
+// A program that was lent nothing is one too.
+impl<P: Program> Borrower for P {
+    ghost Seen = { P.Seen };
+
+    ghost seen = { P.seen };
+
+    ghost channels = { P.channels };
+
+    ghost Lent = { Unit {0} };
+
+    ghost lent = { λ p. tt };
+
+    ghost Ready = { P.Ready };
+
+    ghost reports = { P.reports };
+
+    ghost longest_record = { P.longest_record };
+
+    fn longest() -> usize {
+        P::LONGEST
+    }
+
+    fn form_of(mark: u16) -> Form {
+        P::form_of(mark)
+    }
+
+    fn take(
+        &mut self,
+        mark: u16,
+        content: &[u8],
+        out: &mut [u8],
+        to: usize,
+        report: &mut [u8],
+        told: usize,
+    ) -> Put {
+        <P as Program>::take(self, mark, content, out, to, report, told)
+    }
+
+    fn put_last(&mut self, entry: Entry, out: &mut [u8], report: &mut [u8]) -> Put {
+        <P as Program>::put_last(self, entry, out, report)
+    }
+}
+
 // What stands at a place of a program's file; the end, or a record that is cut, is shorter than the longest record.
-pub fn entry_at<P: Program>(file: &[u8], at: usize) -> Entry
+pub fn entry_at<P: Borrower>(file: &[u8], at: usize) -> Entry
     ensures entry { result ≡ entry_in P.channels.forms (drop at file.now) }
     ensures short { (result ≡ Entry.End) ⊎ (result ≡ Entry.Cut) → length file.now - at < P.longest_record }
 {
@@ -93,7 +192,7 @@ pub fn entry_at<P: Program>(file: &[u8], at: usize) -> Entry
 }
 
 // The whole records at the start of a block of the file, as many as the output has room for; the report shares that room.
-pub fn fill<P: Program>(program: &mut P, file: &[u8], out: &mut [u8], report: &mut [u8]) -> Filled
+pub fn fill<P: Borrower>(program: &mut P, file: &[u8], out: &mut [u8], report: &mut [u8]) -> Filled
     requires ready { P.Ready program.old }
     requires tellable { Tellable P.reports 0 (length out.old) report.old }
     ensures fills { Fills P.channels (P.seen program.old) file.now out.old report.old (P.seen program.new) result.read out.new result.wrote report.new result.told }

@@ -17,7 +17,7 @@ use desk::{BYTES, Desk};
 use lines::LONGEST_LINES;
 use meaning::{Kind, LONGEST_LISTING, Refusal};
 use notes::Notes;
-use programs::{Program, Put};
+use programs::{Borrower, Put};
 use records::{Entry, Form};
 use segments::SEGMENT_BYTES;
 use slots::Answer;
@@ -159,7 +159,7 @@ impl Replay<'_> {
     }
 }
 
-impl Program for Replay<'_> {
+impl Borrower for Replay<'_> {
     ghost Seen = { State };
 
     ghost seen = { seen };

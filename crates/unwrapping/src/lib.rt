@@ -1,7 +1,7 @@
 // The program `unwrap`: a file of outer packets given to the tunnel's reader, record by record, the packets that come out, and the lines of the report.
 #![tactic(auto)]
 
-ghost use Rattle.std.specs.Prelude.{◌≡◌, true, drop};
+ghost use Rattle.std.specs.Prelude.{◌≡◌, true, refl, drop};
 ghost use Rattle.records.specs.Records.{entry_in};
 ghost use Rattle.tunnel.specs.Unwrap.{shortest_output};
 ghost use Rattle.unwrapping.specs.Unwrapping.{outer_form, longest_record, State, state, unwrap_channels};
@@ -33,19 +33,15 @@ impl Program for Unwrap {
 
     ghost channels = { unwrap_channels };
 
-    ghost Lent = { Unit {0} };
-
-    ghost lent = { λ p. tt };
-
     ghost Ready = { λ p. Unit {0} };
 
     ghost reports = { true };
 
     ghost longest_record = { longest_record };
 
-    fn longest() -> usize {
-        SHORTEST_OUTPUT
-    }
+    const LONGEST: usize = SHORTEST_OUTPUT;
+
+    ghost LONGEST = { shortest_output };
 
     fn form_of(mark: u16) -> Form {
         match mark {
@@ -110,6 +106,8 @@ impl Program for Unwrap {
             told: end,
         }
     }
+
+    ghost longest_is = { refl };
 }
 
 // What stands at a place of the file.

@@ -13,7 +13,7 @@ ghost use Rattle.wrapping.specs.Wrapping.{stamp_bytes, wrap_form, longest_record
 ghost use Rattle.wrapping.specs.Seen.{seen, lent};
 
 use packets::{LONGEST_PACKET, SHORTEST_PACKET};
-use programs::{Program, Put};
+use programs::{Borrower, Put};
 use records::{Entry, Form, LENGTH_BYTES};
 use reports::Said;
 use rtp::HEADER_BYTES;
@@ -183,7 +183,7 @@ impl Wrap<'_> {
     }
 }
 
-impl Program for Wrap<'_> {
+impl Borrower for Wrap<'_> {
     ghost Seen = { State };
 
     ghost seen = { seen };

@@ -9,7 +9,7 @@ use Rattle.blocks.proofs.finish.Goals as goal
 
 pub returns : goal.returns
 returns g c =
-    let p = g.P.Program in
+    let p = g.P.Borrower in
     let a = c.args in
     let stands = stands-unread p.channels.forms a.block.now a.at a.have c.requires.at_le_have.0 c.requires.at_le_have.1 _ c.entry_at-entry.ensures.entry in
     let said = last_said p.channels (p.seen a.program.now) _ a.out.now a.report.now _ _ _ _ c.put_last-put.ensures in (

@@ -5,7 +5,7 @@ use Rattle.blocks.proofs.run.Given as goal
 
 abbrev pub invariant-loop-turns : goal.invariant-loop-turns
 invariant-loop-turns g l = record {
-  ready : g.P.Program.Ready l.program;
+  ready : g.P.Borrower.Ready l.program;
   ahead : l.at ≤ l.have;
   inside : l.have ≤ length l.block;
   turns : l.turns ≤ most_turns;

@@ -7,20 +7,20 @@ use Rattle.blocks.proofs.turn.Goals as goal
 
 pub overflow_add-next : goal.overflow_add-next
 overflow_add-next g c =
-    omega (arith, read-inside g.P.Program.channels _ c.args.block.now _ _ _ _ _ _ _ _ _ _ c.fill-f.ensures.fills c.requires.at_le_have.0 c.requires.at_le_have.1)
+    omega (arith, read-inside g.P.Borrower.channels _ c.args.block.now _ _ _ _ _ _ _ _ _ _ c.fill-f.ensures.fills c.requires.at_le_have.0 c.requires.at_le_have.1)
 
 pub proceed-unread-requires-clause-next_le_have : goal.proceed-unread-requires-clause-next_le_have
 proceed-unread-requires-clause-next_le_have g c =
-    (read-inside g.P.Program.channels _ c.args.block.now _ _ _ _ _ _ _ _ _ _ c.fill-f.ensures.fills c.requires.at_le_have.0 c.requires.at_le_have.1, c.requires.at_le_have.1)
+    (read-inside g.P.Borrower.channels _ c.args.block.now _ _ _ _ _ _ _ _ _ _ c.fill-f.ensures.fills c.requires.at_le_have.0 c.requires.at_le_have.1, c.requires.at_le_have.1)
 
 pub proceed-unread-requires-clause-next_in_bounds : goal.proceed-unread-requires-clause-next_in_bounds
 proceed-unread-requires-clause-next_in_bounds g c short =
-    let most : c.args.at + c.fill-f.result.read ≤ c.args.have = read-inside g.P.Program.channels _ c.args.block.now _ _ _ _ _ _ _ _ _ _ c.fill-f.ensures.fills c.requires.at_le_have.0 c.requires.at_le_have.1 in
+    let most : c.args.at + c.fill-f.result.read ≤ c.args.have = read-inside g.P.Borrower.channels _ c.args.block.now _ _ _ _ _ _ _ _ _ _ c.fill-f.ensures.fills c.requires.at_le_have.0 c.requires.at_le_have.1 in
     let there : length (take c.args.have c.args.block.now) ≡ c.args.have = length-take-le c.args.have c.args.block.now c.requires.at_le_have.1 in
     omega (arith, c.entry_at-entry.ensures.short short)
 
 pub returns-clause-both_say : goal.returns-clause-both_say
 returns-clause-both_say g c =
-    let most : c.args.at + c.fill-f.result.read ≤ c.args.have = read-inside g.P.Program.channels _ c.args.block.now _ _ _ _ _ _ _ _ _ _ c.fill-f.ensures.fills c.requires.at_le_have.0 c.requires.at_le_have.1 in
-    let stands = stands-unread g.P.Program.channels.forms c.args.block.now _ c.args.have most c.requires.at_le_have.1 _ c.entry_at-entry.ensures.entry in
-    both_say g.P.Program.channels _ c.args.block.now c.args.at c.args.have _ _ _ _ _ _ _ _ c.fill-f.ensures.fills _ stands c.write_both-sent.result _ _ c.proceed-unread.ensures
+    let most : c.args.at + c.fill-f.result.read ≤ c.args.have = read-inside g.P.Borrower.channels _ c.args.block.now _ _ _ _ _ _ _ _ _ _ c.fill-f.ensures.fills c.requires.at_le_have.0 c.requires.at_le_have.1 in
+    let stands = stands-unread g.P.Borrower.channels.forms c.args.block.now _ c.args.have most c.requires.at_le_have.1 _ c.entry_at-entry.ensures.entry in
+    both_say g.P.Borrower.channels _ c.args.block.now c.args.at c.args.have _ _ _ _ _ _ _ _ c.fill-f.ensures.fills _ stands c.write_both-sent.result _ _ c.proceed-unread.ensures

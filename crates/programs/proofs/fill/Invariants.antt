@@ -7,9 +7,9 @@ use Rattle.programs.proofs.fill.Given as goal
 
 abbrev pub invariant-loop-out : goal.invariant-loop-out
 invariant-loop-out g l = record {
-  doing : Doing g.P.Program.channels (g.P.Program.seen l.initial.program) l.file l.initial.out l.initial.report (g.P.Program.seen l.program) l.out l.report l.read l.wrote l.told;
-  ready : g.P.Program.Ready l.program;
-  same_memories : g.P.Program.lent l.program ≡ g.P.Program.lent l.initial.program;
+  doing : Doing g.P.Borrower.channels (g.P.Borrower.seen l.initial.program) l.file l.initial.out l.initial.report (g.P.Borrower.seen l.program) l.out l.report l.read l.wrote l.told;
+  ready : g.P.Borrower.Ready l.program;
+  same_memories : g.P.Borrower.lent l.program ≡ g.P.Borrower.lent l.initial.program;
 }
 
 abbrev pub decreases-loop-out : goal.decreases-loop-out

@@ -4,7 +4,7 @@ use Rattle.programs.proofs.Alone.{all_behind}
 use Rattle.wrapping.specs.Wrapping.{State}
 use Rattle.wrapping.specs.Seen.{seen}
 use Rattle.wrapping.proofs.Laws.{packet_long, stamp_takes, packet_takes, next_size}
-use Rattle.wrapping.proofs.WrapProgram.take.Goals as goal
+use Rattle.wrapping.proofs.WrapBorrower.take.Goals as goal
 
 pub stamp_of-self-requires : goal.stamp_of-self-requires
 stamp_of-self-requires c = omega (arith, rw c.if-mark-eq-STAMP_MARK.true at c.requires.holds)

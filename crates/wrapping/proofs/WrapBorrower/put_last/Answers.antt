@@ -2,7 +2,7 @@
 use Rattle.std.proofs.Common.{arith, refl}
 use Rattle.wrapping.specs.Seen.{seen}
 use Rattle.wrapping.proofs.Last.{puts_last}
-use Rattle.wrapping.proofs.WrapProgram.put_last.Goals as goal
+use Rattle.wrapping.proofs.WrapBorrower.put_last.Goals as goal
 
 pub put_last-told-requires : goal.put_last-told-requires
 put_last-told-requires c = omega (arith, c.requires.tellable.1 refl)

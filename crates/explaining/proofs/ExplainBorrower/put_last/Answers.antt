@@ -2,7 +2,7 @@
 use Rattle.std.proofs.Common.{arith, refl}
 use Rattle.programs.proofs.Alone.{puts_line}
 use Rattle.explaining.specs.Explained.{explain_program}
-use Rattle.explaining.proofs.ExplainProgram.put_last.Goals as goal
+use Rattle.explaining.proofs.ExplainBorrower.put_last.Goals as goal
 
 pub returns : goal.returns
 returns c = puts_line explain_program refl (omega arith) c.put_last-wrote.ensures

@@ -6,7 +6,7 @@ use Rattle.replay.specs.Log.{log_program}
 use Rattle.replay.specs.Seen.{seen}
 use Rattle.replay.proofs.Log.{next_ready, lines_fit}
 use Rattle.replay.proofs.Laws.{lent_same}
-use Rattle.replay.proofs.ReplayProgram.take.Goals as goal
+use Rattle.replay.proofs.ReplayBorrower.take.Goals as goal
 
 pub returns-clause-takes : goal.returns-clause-takes
 returns-clause-takes c =

@@ -6,7 +6,7 @@ use Rattle.replay.specs.Seen.{seen}
 use Rattle.replay.proofs.Laws.{lent_same}
 use Rattle.explaining.specs.Explained.{explain_program}
 use Rattle.explaining.proofs.Fits.{record-short, record_fits, explain_ready}
-use Rattle.explaining.proofs.ExplainProgram.take.Goals as goal
+use Rattle.explaining.proofs.ExplainBorrower.take.Goals as goal
 
 pub call-requires-clause-length_bytes_in_bounds : goal.call-requires-clause-length_bytes_in_bounds
 call-requires-clause-length_bytes_in_bounds c m = (rw m at c.requires.holds).0
